@@ -1,0 +1,20 @@
+-- `operands::pattern::single` meets its contract. Assumes nothing.
+use native.Mathlib.Omega.{arith}
+use borrow.Author.Tests.{eq-eqb, ne-eqb}
+use Rattle.operands.proofs.pattern.single.Statement.{statement}
+use Rattle.operands.proofs.pattern.single.Tie as tie
+
+returns : tie.Need-returns
+returns c =
+    (rw (eq-eqb _ _ (c .if1 .taken)), omega arith)
+
+returns-2 : tie.Need-returns-2
+returns-2 c =
+    (rw (ne-eqb _ _ (c .before .if1 .left), eq-eqb _ _ (c .if2 .taken)), omega arith)
+
+returns-3 : tie.Need-returns-3
+returns-3 c =
+    (rw (ne-eqb _ _ (c .before .if1 .left), ne-eqb _ _ (c .if2 .left)), omega arith)
+
+pub single-spec : {M : Type 1} → statement M
+single-spec = tie.close (tie.spec returns returns-2 returns-3)
