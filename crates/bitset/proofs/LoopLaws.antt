@@ -1,0 +1,143 @@
+-- The loops: one that stores f of two words at each place of a row, from the front, and one that compares two rows. Assumes nothing.
+use mathlib.Core.Logic.{inl, inr}
+use mathlib.Core.Path.{_≡_, refl, sym, ap, ap₂, _∙_}
+use mathlib.Core.Bool.{Bool, _&&_, and-true, and-assoc}
+use mathlib.Core.List.{List, [], _∷_, _++_, append-assoc}
+use Prim.Native.Nat.{ℕ, _+_, _≤_, _<_}
+use native.Mathlib.Numerals.{add-one}
+use native.Mathlib.Omega.{arith}
+use lib.Bits.{bitOr, bitXor}
+use lib.Dec.{eqb}
+use lib.ListN.{length, take, drop, getD, set, replicate, length-set, length-drop, length-replicate, getD-replicate}
+use lib.Seq.{take-all, take-suc, length-take-le, getD-drop, paste, paste-zero, paste-suc}
+use Rattle.bitset.specs.Sets.{zipped, same}
+use Rattle.bitset.specs.Rows.{row, patched, Apart}
+use Rattle.bitset.proofs.Digits.{differs}
+use Rattle.bitset.proofs.SetLaws.{length-zipped, getD-zipped}
+use Rattle.bitset.proofs.RowLaws.{length-row, getD-row, patched-before, patched-after}
+
+-- ---- a loop that stores
+
+-- z has f of the words of the row at d of l and of the row at s of m
+pub record Made (f : ℕ → ℕ → ℕ) (l : List ℕ) (d : ℕ) (m : List ℕ) (s w : ℕ) (z : List ℕ) : Type 0 where
+  pub room : d + w ≤ length l
+  pub size : length z ≡ w
+  pub each : (k : ℕ) → k < w → getD z k 0 ≡ f (getD l (d + k) 0) (getD m (s + k) 0)
+
+-- after k turns of w the slice l has become x: the first k words of z stand from d on
+pub record Stored (l : List ℕ) (d : ℕ) (z : List ℕ) (w k : ℕ) (x : List ℕ) : Type 0 where
+  pub below : k ≤ w
+  pub long : length x ≡ length l
+  pub is : x ≡ patched l d (take k z)
+
+pub made-zipped : {f : ℕ → ℕ → ℕ} {l : List ℕ} {d : ℕ} {m : List ℕ} {s w : ℕ} → d + w ≤ length l
+    → Made f l d m s w (zipped f (row l d w) (row m s w))
+made-zipped {f} {l} {d} {m} {s} {w} h =
+    let q : length (row l d w) ≡ w = length-row l d w h in
+    record {
+      room = h;
+      size = length-zipped f (row l d w) (row m s w) ∙ q;
+      each = λ k i. getD-zipped f (row l d w) (row m s w) k (omega arith) ∙ ap₂ f (getD-row l d w k i) (getD-row m s w k i);
+    }
+
+pub made-row : {l : List ℕ} {d : ℕ} {m : List ℕ} {s w : ℕ} → d + w ≤ length l → s + w ≤ length m
+    → Made (λ a b. b) l d m s w (row m s w)
+made-row {m} {s} {w} h g = record { room = h; size = length-row m s w g; each = getD-row m s w }
+
+pub made-fill : {v : ℕ} {l : List ℕ} {d w : ℕ} → d + w ≤ length l → Made (λ a b. v) l d l d w (replicate w v)
+made-fill {v} {w} h = record { room = h; size = length-replicate w v; each = λ k i. getD-replicate w k v 0 i }
+
+module _ {f : ℕ → ℕ → ℕ} {l : List ℕ} {d : ℕ} {m : List ℕ} {s w : ℕ} {z : List ℕ} (made : Made f l d m s w z) where
+  -- the slice after k turns, as the library has it
+  pasted : (k : ℕ) → k ≤ w → patched l d (take k z) ≡ paste l d z k
+  unfolding patched
+  pasted k h =
+      ap (λ (n : ℕ). take d l ++ (take k z ++ drop (d + n) l)) (length-take-le k z (omega (arith, made .size)))
+      ∙ sym (append-assoc (take d l) (take k z) (drop (d + k) l))
+
+  pub stored-none : Stored l d z w 0 l
+  stored-none = record { below = omega arith; long = refl; is = paste-zero l d z ∙ sym (pasted 0 (omega arith)) }
+
+  module _ {k : ℕ} {x : List ℕ} (stored : Stored l d z w k x) where
+    pub stored-all : w ≤ k → x ≡ patched l d z
+    stored-all h = stored .is ∙ ap (λ (t : List ℕ). patched l d t) (take-all k z (omega (arith, made .size)))
+
+    module _ (turn : k < w) where
+      size-k : length (take k z) ≡ k
+      size-k = length-take-le k z (omega (arith, made .size))
+
+      -- the word to be replaced is still the old one
+      own : getD x (d + k) 0 ≡ getD l (d + k) 0
+      own =
+          ap (λ (t : List ℕ). getD t (d + k) 0) (stored .is)
+          ∙ patched-after l d (take k z) (omega (arith, size-k, made .room)) (d + k) (omega (arith, size-k))
+
+      -- and so is each word of a row of the slice that is apart
+      other : Apart d s w → getD x (s + k) 0 ≡ getD l (s + k) 0
+      other apart = ap (λ (t : List ℕ). getD t (s + k) 0) (stored .is) ∙ go apart
+        where
+          go : Apart d s w → getD (patched l d (take k z)) (s + k) 0 ≡ getD l (s + k) 0
+          go (inl h) = patched-after l d (take k z) (omega (arith, size-k, made .room)) (s + k) (omega (arith, size-k))
+          go (inr h) = patched-before l d (take k z) (omega (arith, size-k, made .room)) (s + k) (omega arith)
+
+      -- one turn, with b the word of the source
+      turned : (b : ℕ) → b ≡ getD m (s + k) 0 → Stored l d z w (k + 1) (set x (d + k) (f (getD x (d + k) 0) b))
+      turned b e = record {
+        below = omega arith;
+        long = length-set x (d + k) (f (getD x (d + k) 0) b) ∙ stored .long;
+        is =
+            ap₂ (λ (t : List ℕ) (v : ℕ). set t (d + k) v) (stored .is ∙ pasted k (stored .below)) (ap₂ f own e ∙ sym (made .each k turn))
+            ∙ paste-suc l d z k 0 (omega (arith, made .room)) (omega (arith, made .size)) ∙ ap (paste l d z) (sym (add-one k))
+            ∙ sym (pasted (k + 1) (omega arith));
+      }
+
+      pub stored-more : Stored l d z w (k + 1) (set x (d + k) (f (getD x (d + k) 0) (getD m (s + k) 0)))
+      stored-more = turned (getD m (s + k) 0) refl
+
+-- a source row of the same slice
+pub stored-within : {f : ℕ → ℕ → ℕ} {l : List ℕ} {d s w : ℕ} {z : List ℕ} → Made f l d l s w z → Apart d s w
+    → {k : ℕ} {x : List ℕ} → Stored l d z w k x → k < w → Stored l d z w (k + 1) (set x (d + k) (f (getD x (d + k) 0) (getD x (s + k) 0)))
+stored-within {s} made apart {k} {x} stored turn = turned made stored turn (getD x (s + k) 0) (other made stored turn apart)
+
+-- ---- a loop that compares
+same-snoc : (xs ys : List ℕ) (x y : ℕ) → length xs ≡ length ys → same (xs ++ x ∷ []) (ys ++ y ∷ []) ≡ (same xs ys && eqb x y)
+unfolding same
+same-snoc [] [] x y h = and-true (eqb x y)
+same-snoc [] (b ∷ ys) x y h = absurd (omega arith)
+same-snoc (a ∷ xs) [] x y h = absurd (omega arith)
+same-snoc (a ∷ xs) (b ∷ ys) x y h =
+    ap (λ (t : Bool). eqb a b && t) (same-snoc xs ys x y (omega arith)) ∙ sym (and-assoc (eqb a b) (same xs ys) (eqb x y))
+
+row-more : (l : List ℕ) (base k : ℕ) → base + k < length l → row l base (k + 1) ≡ row l base k ++ (getD l (base + k) 0 ∷ [])
+unfolding row
+row-more l base k h =
+    ap (λ (n : ℕ). take n (drop base l)) (add-one k) ∙ take-suc (drop base l) k 0 (simp length-drop (omega arith))
+    ∙ ap (λ (v : ℕ). take k (drop base l) ++ (v ∷ [])) (getD-drop base l k 0)
+
+-- after k turns of w: the OR of the differences is 0 exactly if the words so far are the same
+pub record Compared (a : List ℕ) (i : ℕ) (b : List ℕ) (j w k differ : ℕ) : Type 0 where
+  pub below : k ≤ w
+  pub is : eqb differ 0 ≡ same (row a i k) (row b j k)
+
+pub compared-none : {a : List ℕ} {i : ℕ} {b : List ℕ} {j w : ℕ} → Compared a i b j w 0 0
+unfolding same row
+compared-none = record { below = omega arith; is = refl }
+
+module _ {a : List ℕ} {i : ℕ} {b : List ℕ} {j w k differ : ℕ} (compared : Compared a i b j w k differ) where
+  pub compared-more : i + w ≤ length a → j + w ≤ length b → k < w
+      → Compared a i b j w (k + 1) (bitOr differ (bitXor (getD a (i + k) 0) (getD b (j + k) 0)))
+  compared-more ha hb turn =
+      let x : ℕ = getD a (i + k) 0 in
+      let y : ℕ = getD b (j + k) 0 in
+      record {
+        below = omega arith;
+        is =
+            differs differ x y ∙ ap (λ (t : Bool). t && eqb x y) (compared .is)
+            ∙ sym (ap₂ same (row-more a i k (omega arith)) (row-more b j k (omega arith))
+            ∙ same-snoc (row a i k) (row b j k) x y (length-row a i k (omega arith) ∙ sym (length-row b j k (omega arith))));
+      }
+
+  pub compared-all : w ≤ k → eqb differ 0 ≡ same (row a i w) (row b j w)
+  compared-all h =
+      let e : k ≡ w = omega (arith, compared .below) in
+      compared .is ∙ ap (λ (n : ℕ). same (row a i n) (row b j n)) e

@@ -1,0 +1,3 @@
+-- Sets of slots in words of 64 bits, and rows of words in a slice.
+pub mod Sets
+pub mod Rows

@@ -1,0 +1,2 @@
+-- What the exported operand functions answer.
+pub mod Exports
