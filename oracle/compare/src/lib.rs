@@ -1,5 +1,10 @@
-//! The port's exported functions, and what the comparisons with the oracle share.
-//! The comparisons themselves are the tests of this crate.
+//! The port's operand functions, and what the comparisons share: the plain reader of
+//! sheets, and the inputs. The comparisons themselves are the tests of this crate and
+//! of `compare-sheet`.
 
+pub mod damage;
 pub mod operands_c;
 pub mod random;
+pub mod reader;
+pub mod scripts;
+pub mod sheets;

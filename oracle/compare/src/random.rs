@@ -33,4 +33,14 @@ impl Random {
     pub fn once_in(&mut self, times: u32) -> bool {
         self.number(1..=times) == 1
     }
+
+    /// One of these.
+    pub fn pick<T: Copy>(&mut self, these: &[T]) -> T {
+        these[self.below(these.len())]
+    }
+
+    /// A place below a length that is not zero.
+    pub fn below(&mut self, length: usize) -> usize {
+        (self.bits() % length as u64) as usize
+    }
 }

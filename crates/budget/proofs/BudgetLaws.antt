@@ -1,0 +1,68 @@
+-- Charges in parts, and what a budget is after them. Assumes nothing.
+use mathlib.Core.Path.{_≡_, refl, sym, ap, _∙_}
+use mathlib.Core.Bool.{Bool, true, false}
+use mathlib.Core.List.{List, [], _∷_, _++_}
+use Prim.Native.Nat.{ℕ, _+_, _*_, _≤_, _<_}
+use native.Mathlib.Omega.{arith}
+use native.Mathlib.Nat.{mul-le-mul}
+use lib.Dec.{leb}
+use borrow.Author.Tests.{le-leb, lt-leb}
+use Rattle.dataflow.specs.Lists.{pick}
+use Rattle.dataflow.specs.Charges.{Spent, within, crossed, saturatingSum, spend, andThen}
+use Rattle.budget.specs.declared.FlowBudget.{FlowBudget}
+use Rattle.budget.specs.declared.Limits.{Limits}
+use Rattle.budget.specs.declared.Charged.{Charged}
+use Rattle.budget.specs.declared.Charged.the-variants.{Ok, Over}
+use Rattle.budget.specs.Budget.{withWork, afterSpent, charged, andCharged, stateBytes}
+
+-- no charge changes nothing
+pub charged-none : (l : Limits) (b : FlowBudget) → charged l b [] ≡ Ok b
+unfolding charged
+charged-none l b = refl
+
+-- the first charge, then the rest
+pub charged-cons : (l : Limits) (b : FlowBudget) (c : ℕ) (cs : List ℕ)
+    → charged l b (c ∷ cs) ≡ andCharged (charged l b (c ∷ [])) (λ b′. charged l b′ cs)
+unfolding charged
+charged-cons l b c cs = go (leb (saturatingSum (b .work) c) (l .work))
+  where
+    w : ℕ
+    w = saturatingSum (b .work) c
+
+    go : (t : Bool) → afterSpent b (pick t (spend (l .work) w cs) (crossed w))
+        ≡ andCharged (afterSpent b (pick t (within w) (crossed w))) (λ b′. afterSpent b′ (spend (l .work) (b′ .work) cs))
+    go true = kept (spend (l .work) w cs)
+      where
+        kept : (s : Spent) → afterSpent b s ≡ afterSpent (withWork b w) s
+        kept (within v) = refl
+        kept (crossed v) = refl
+    go false = refl
+
+-- a list of charges in two parts
+pub charged-append : (l : Limits) (b : FlowBudget) (cs ds : List ℕ)
+    → charged l b (cs ++ ds) ≡ andCharged (charged l b cs) (λ b′. charged l b′ ds)
+charged-append l b [] ds = rw (charged-none l b) refl
+charged-append l b (c ∷ cs) ds =
+    charged-cons l b c (cs ++ ds) ∙ go (charged l b (c ∷ [])) (λ b′. charged-append l b′ cs ds)
+    ∙ ap (λ (r : Charged). andCharged r (λ b′. charged l b′ ds)) (sym (charged-cons l b c cs))
+  where
+    go : (r : Charged) → ((b′ : FlowBudget) → charged l b′ (cs ++ ds) ≡ andCharged (charged l b′ cs) (λ b″. charged l b″ ds))
+        → andCharged r (λ b′. charged l b′ (cs ++ ds)) ≡ andCharged (andCharged r (λ b′. charged l b′ cs)) (λ b″. charged l b″ ds)
+    go (Ok b′) f = f b′
+    go (Over b′) f = refl
+
+-- one charge, by the sum that it makes
+module _ (l : Limits) (b : FlowBudget) (c w : ℕ) (e : w ≡ saturatingSum (b .work) c) where
+  pub charged-met : w ≤ l .work → Ok (withWork b w) ≡ charged l b (c ∷ [])
+  unfolding charged
+  charged-met h = rw (← e, le-leb w (l .work) h) refl
+
+  pub charged-over : l .work < w → Over (withWork b w) ≡ charged l b (c ∷ [])
+  unfolding charged
+  charged-over h = rw (← e, lt-leb w (l .work) h) refl
+
+-- the products of `state_bytes` fit
+pub state-small : (blocks words : ℕ) → blocks ≤ 65536 → words ≤ 1024 → blocks * (32 * words + 264) ≤ 65536 * 33032
+state-small blocks words h k =
+    let g : 32 * words + 264 ≤ 33032 = omega arith in
+    mul-le-mul h g

@@ -1,0 +1,2 @@
+-- Laws of charging a budget.
+pub mod BudgetLaws

@@ -1,0 +1,2 @@
+-- The budget of a run and its limits.
+pub mod Budget
