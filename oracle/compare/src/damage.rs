@@ -131,7 +131,7 @@ fn records(sheet: &[u8]) -> Vec<Range<usize>> {
     found
 }
 
-fn swap(sheet: &mut Vec<u8>, one: Range<usize>, other: Range<usize>) {
+fn swap(sheet: &mut [u8], one: Range<usize>, other: Range<usize>) {
     let (a, b) = if one.start < other.start {
         (one, other)
     } else {

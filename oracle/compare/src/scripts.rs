@@ -4,7 +4,7 @@ use crate::random::Random;
 use kagari_oracle::{ABSENT, Field, Instruction, KINDS, Script, SlotType, Type, pattern};
 
 /// The kinds that may stand last.
-pub const CLOSING: [u16; 5] = [12, 38, 39, 40, 41];
+const CLOSING: [u16; 5] = [12, 38, 39, 40, 41];
 
 /// The kinds that can do without slots.
 const WITHOUT_SLOTS: [u16; 5] = [12, 13, 38, 40, 41];

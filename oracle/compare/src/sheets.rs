@@ -3,7 +3,7 @@
 
 use crate::damage::{damage, spoil};
 use crate::random::Random;
-use crate::scripts::{self, CLOSING};
+use crate::scripts;
 use kagari_oracle::cases::*;
 use kagari_oracle::{ABSENT, Field, Instruction, KINDS, Script, SlotType, Type, pattern, sheet};
 use std::fmt::Arguments;
@@ -70,15 +70,17 @@ fn of_each_kind() -> impl Iterator<Item = Instruction> {
     })
 }
 
+fn unreachable_code() -> Instruction {
+    Instruction::new(41, [])
+}
+
 /// Cases a to l, cut at every byte.
 fn cuts(check: &mut Check) {
     for (name, script) in cases_a_to_l() {
         let sheet = sheet(&script);
         for length in 0..=sheet.len() {
-            check(
-                &sheet[..length],
-                format_args!("case {name}, {length} bytes"),
-            );
+            let name = format_args!("case {name}, {length} bytes");
+            check(&sheet[..length], name);
         }
     }
 }
@@ -112,28 +114,33 @@ fn every_byte(check: &mut Check, script: &Script, name: Arguments) {
     }
 }
 
-/// Cases b to l with another kind or another length in one record, the bytes behind it
-/// as they were.
+/// Cases a to l with another kind, another length or both in one record, the bytes
+/// behind them as they were.
 fn heads(check: &mut Check) {
-    let edges = [32_767, 32_768, 65_531, 65_532, 65_533, 65_534, 65_535];
+    let highest = [32_767, 32_768, 65_531, 65_532, 65_533, 65_534, 65_535];
     for (name, script) in cases_a_to_l() {
         let mut sheet = sheet(&script);
         let mut at = 0;
         while at < sheet.len() {
-            let head = [sheet[at], sheet[at + 1], sheet[at + 2], sheet[at + 3]];
-            for kind in (0..=520).chain(edges) {
-                sheet[at + 2..at + 4].copy_from_slice(&u16::to_le_bytes(kind));
-                check(&sheet, format_args!("case {name}, kind {kind} at {at}"));
+            let length = u16::from_le_bytes([sheet[at], sheet[at + 1]]);
+            let kind = u16::from_le_bytes([sheet[at + 2], sheet[at + 3]]);
+            let kinds = (0..=520).chain(highest).map(|kind| (length, kind));
+            let lengths = (0..=150).chain(highest);
+            let both = lengths.flat_map(|length| [(length, kind), (length, 42)]);
+            for (length, kind) in kinds.chain(both) {
+                set_head(&mut sheet, at, length, kind);
+                let name = format_args!("case {name}, length {length}, kind {kind} at {at}");
+                check(&sheet, name);
             }
-            sheet[at..at + 4].copy_from_slice(&head);
-            for length in (0..=150).chain(edges) {
-                sheet[at..at + 2].copy_from_slice(&u16::to_le_bytes(length));
-                check(&sheet, format_args!("case {name}, length {length} at {at}"));
-            }
-            sheet[at..at + 4].copy_from_slice(&head);
-            at += 2 + usize::from(u16::from_le_bytes([head[0], head[1]]));
+            set_head(&mut sheet, at, length, kind);
+            at += 2 + usize::from(length);
         }
     }
+}
+
+fn set_head(sheet: &mut [u8], at: usize, length: u16, kind: u16) {
+    sheet[at..at + 2].copy_from_slice(&length.to_le_bytes());
+    sheet[at + 2..at + 4].copy_from_slice(&kind.to_le_bytes());
 }
 
 /// Function records with counts at their edges, of each length up to some, and what
@@ -255,11 +262,11 @@ fn type_bytes(ty: &Type) -> Vec<u8> {
 
 /// Each field of each kind, and parameters, at the edges of both counts.
 fn operands(check: &mut Check) {
-    for slots in [0, 1, 2, 63, 64, 65, 300] {
-        for count in [1, 2, 3, 300] {
+    for slots in [0, 1, 2, 63, 64, 65, 300_u32] {
+        for count in [1, 2, 3, 300_u32] {
             let edges = [
                 0,
-                slots - 1,
+                slots.saturating_sub(1),
                 slots,
                 slots + 1,
                 count - 1,
@@ -268,28 +275,26 @@ fn operands(check: &mut Check) {
                 64,
                 65_535,
                 65_536,
-                i64::from(ABSENT) - 1,
-                i64::from(ABSENT),
+                ABSENT - 1,
+                ABSENT,
             ];
-            let edges = edges.map(|edge| edge.max(0) as u32);
             let mut script = Script {
                 slots: vec![plain(); slots as usize],
-                code: vec![Instruction::new(41, []); count as usize],
+                code: vec![unreachable_code(); count as usize],
                 ..script([], [], [])
             };
             for instruction in of_each_kind() {
-                let fitting: Vec<u32> = instruction.fields.iter().map(|_| 0).collect();
-                for place in 0..fitting.len() {
+                let fields = vec![0; instruction.fields.len()];
+                for place in 0..fields.len() {
                     for edge in edges {
-                        let mut fields = fitting.clone();
-                        fields[place] = edge;
-                        script.code[0] = Instruction::new(instruction.kind, fields);
+                        script.code[0] = Instruction::new(instruction.kind, &fields[..]);
+                        script.code[0].fields[place] = edge;
                         let name = format_args!("{slots} slots, N {count}, {:?}", script.code[0]);
                         check(&sheet(&script), name);
                     }
                 }
             }
-            script.code[0] = Instruction::new(41, []);
+            script.code[0] = unreachable_code();
             for edge in edges {
                 for parameters in [vec![edge], vec![0, edge], vec![edge, 0], vec![0, 0]] {
                     script.parameters = parameters;
@@ -302,8 +307,15 @@ fn operands(check: &mut Check) {
 }
 
 /// Each kind with each choice of fields out of bounds, with a body that is cut or has
-/// bytes added, and as the first or the last instruction.
+/// bytes added, as the first of two instructions and as the last.
 fn faults_in_one_record(check: &mut Check) {
+    let before = [
+        record(FUNCTION, &numbers(&[7, 2, 2])),
+        record(PARAMETERS, &[]),
+        record(SLOT, &[3, 0]).repeat(2),
+    ]
+    .concat();
+    let other = record(41, &[]);
     for instruction in of_each_kind() {
         let kind = instruction.kind;
         for choice in 0..1 << instruction.fields.len() {
@@ -313,21 +325,12 @@ fn faults_in_one_record(check: &mut Check) {
                     *field = 70_000;
                 }
             }
-            let full = [numbers(&fields), vec![0; 8]].concat();
-            for length in 0..=full.len() {
-                let one = record(kind, &full[..length]);
-                let other = record(41, &[]);
+            let longer = [numbers(&fields), vec![0; 8]].concat();
+            for length in 0..=longer.len() {
+                let one = record(kind, &longer[..length]);
                 let name = format_args!("kind {kind}, fields {fields:?}, {length} bytes");
-                let before = sheet(&script([plain(), plain()], [], []));
-                let before = [&record(FUNCTION, &numbers(&[7, 2, 2])), &before[16..]].concat();
-                check(
-                    &[&before, &one, &other].map(|part| &part[..]).concat(),
-                    name,
-                );
-                check(
-                    &[&before, &other, &one].map(|part| &part[..]).concat(),
-                    name,
-                );
+                check(&[&before[..], &one, &other].concat(), name);
+                check(&[&before[..], &other, &one].concat(), name);
             }
         }
     }
@@ -381,8 +384,8 @@ fn faults_in_many_records(check: &mut Check) {
                 for first in &firsts {
                     for last in &lasts {
                         for end in &ends {
-                            let parts = [function, parameters, slot, first, last, end];
-                            let sheet = parts.map(|part| &part[..]).concat();
+                            let sheet =
+                                [&function[..], parameters, slot, first, last, end].concat();
                             check(&sheet, format_args!("whole"));
                             check(&sheet[..sheet.len() - 1], format_args!("cut by one byte"));
                         }
@@ -455,13 +458,13 @@ fn most(check: &mut Check) {
             if slots < 65_535 && count < 65_535 {
                 continue;
             }
-            let await_if = |slots: u32| match slots {
-                0 => Instruction::new(41, []),
+            let filling = match slots {
+                0 => unreachable_code(),
                 _ => await_value(slots - 1, 0),
             };
-            let mut code = vec![await_if(slots); count as usize];
+            let mut code = vec![filling; count as usize];
             code[0] = jump(count - 1);
-            code[count as usize - 1] = Instruction::new(41, []);
+            code[count as usize - 1] = unreachable_code();
             let script = Script {
                 slots: vec![plain(); slots as usize],
                 code,
@@ -508,14 +511,10 @@ fn most_of(check: &mut Check, script: &Script) {
     }
 
     let longer = [&sheet(script)[..], &[0]].concat();
-    check(
-        &longer,
-        format_args!("{slots} slots, N {count}, one byte more"),
-    );
-    check(
-        &longer[..longer.len() - 2],
-        format_args!("{slots} slots, N {count}, one byte less"),
-    );
+    for length in [longer.len(), longer.len() - 2] {
+        let name = format_args!("{slots} slots, N {count}, {length} bytes");
+        check(&longer[..length], name);
+    }
 }
 
 /// Records of about 65,535 bytes: parameters, instructions of each kind, and a type.
@@ -537,11 +536,10 @@ fn longest(check: &mut Check) {
                 let body = &numbers(&fields)[..length];
                 let long = record(kind, body);
                 let sheet = if kind == PARAMETERS {
-                    [&head, &long, &slots, &end, &end]
+                    [&head[..], &long, &slots, &end, &end].concat()
                 } else {
-                    [&head, &none, &slots, &long, &end]
+                    [&head[..], &none, &slots, &long, &end].concat()
                 };
-                let sheet = sheet.map(|part| &part[..]).concat();
                 let name = format_args!("kind {kind}, {length} bytes, fault {fault:?}");
                 check(&sheet, name);
                 check(&sheet[..sheet.len() - end.len() - 1], name);
@@ -558,17 +556,13 @@ fn longest(check: &mut Check) {
     check(&sheet_of_slot(&body), format_args!("the longest type"));
     let mut random = Random::new(2);
     for _ in 0..200 {
+        let (place, value) = (random.below(body.len()), random.number(0..=5) as u8);
+        let cut = sheet_of_slot(&body[..place]);
+        check(&cut, format_args!("the longest type, cut to {place} bytes"));
         let mut damaged = body.clone();
-        let place = random.below(body.len());
-        damaged[place] = random.number(0..=5) as u8;
-        check(
-            &sheet_of_slot(&damaged),
-            format_args!("the longest type, byte {place} is {}", damaged[place]),
-        );
-        check(
-            &sheet_of_slot(&body[..place]),
-            format_args!("the longest type, cut to {place} bytes"),
-        );
+        damaged[place] = value;
+        let name = format_args!("the longest type, byte {place} is {value}");
+        check(&sheet_of_slot(&damaged), name);
     }
 }
 

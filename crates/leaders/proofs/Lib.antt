@@ -1,0 +1,2 @@
+-- Laws of numbering.
+pub mod NumberLaws

@@ -1,0 +1,2 @@
+-- The leaders of a script and the numbers of its blocks, as the words of scratch hold them.
+pub mod Numbers

@@ -1,0 +1,2 @@
+// The first half of `graph` of flow.rs: where blocks begin, and which block an instruction is in.
+pub mod number;

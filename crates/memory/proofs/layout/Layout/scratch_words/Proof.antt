@@ -1,0 +1,49 @@
+-- `memory::layout::Layout::scratch_words` meets its contract. Assumes nothing.
+use native.Mathlib.Nat.{mul-le-mul}
+use native.Mathlib.Omega.{arith}
+use borrow.Author.Needs.{needs}
+use Rattle.memory.proofs.layout.Layout.scratch_words.Statement.{statement}
+use Rattle.memory.proofs.layout.Layout.scratch_words.Tie as tie
+
+mul-result : tie.Need-mul-result
+mul-result c = search needs
+
+mul-result-2 : tie.Need-mul-result-2
+mul-result-2 c = search needs
+
+add-result : tie.Need-add-result
+add-result c = search needs
+
+mul-result-3 : tie.Need-mul-result-3
+mul-result-3 c =
+    let b = c .before .before .before in
+    omega (arith, mul-le-mul (b .pre .1) (b .pre .2))
+
+add-result-2 : tie.Need-add-result-2
+add-result-2 c =
+    let b = c .before .before .before in
+    omega (arith, mul-le-mul (b .pre .1) (b .pre .2))
+
+mul-result-4 : tie.Need-mul-result-4
+mul-result-4 c = search needs
+
+add-result-3 : tie.Need-add-result-3
+add-result-3 c =
+    let b = c .before .before .before .before in
+    omega (arith, mul-le-mul (b .pre .1) (b .pre .2))
+
+returns : tie.Need-returns
+returns c = search needs
+
+pub scratch-words-spec : {M : Type 1} → statement M
+scratch-words-spec =
+    tie.close
+    (tie.spec
+    mul-result
+    mul-result-2
+    add-result
+    mul-result-3
+    add-result-2
+    mul-result-4
+    add-result-3
+    returns)

@@ -1,0 +1,4 @@
+-- Lent words as a list of cells.
+pub mod Cells
+pub mod Scratch
+pub mod Sets

@@ -1,0 +1,41 @@
+-- The layout of scratch: document 01's 4 × N + B × (4 × w + 16) + 4 × w words, as cells.
+use mathlib.Core.List.{List, [], _∷_, _++_}
+use Prim.Native.Nat.{ℕ, _+_, _*_, _≤_, _<_}
+use lib.ListN.{getD, length, replicate}
+use Rattle.memory.specs.Cells.{Mem, cells}
+use Rattle.memory.specs.declared.layout.Layout.{Layout}
+
+-- four cells of a word an instruction; twelve of a word a block; two of two words a block, a word an edge; four rows a block, and four more
+unfoldable pub scratchWidths : Layout → List ℕ
+scratchWidths y =
+    replicate 4 (y .instructions)
+    ++ (replicate 12 (y .blocks) ++ (replicate 2 (2 * y .blocks) ++ replicate (4 * y .blocks + 4) (y .words)))
+
+-- how many cells there are
+abbrev pub scratchCells : Layout → ℕ
+scratchCells y = 22 + 4 * y .blocks
+
+-- document 01's size of scratch
+abbrev pub scratchWords : Layout → ℕ
+scratchWords y = 4 * y .instructions + y .blocks * (4 * y .words + 16) + 4 * y .words
+
+-- the words of scratch as cells
+unfoldable pub scratch : Layout → List ℕ → Mem
+scratch y l = cells (scratchWidths y) l
+
+-- the sizes are those of a sheet that passed (instructions and blocks at most 65,536, words at most 1,024), and scratch holds n words, enough
+pub record Room (y : Layout) (n : ℕ) : Type 0 where
+  pub instructions : y .instructions ≤ 65536
+  pub blocks : y .blocks ≤ 65536
+  pub words : y .words ≤ 1024
+  pub fits : scratchWords y ≤ n
+
+-- word i of cell k is there
+pub record Place (y : Layout) (k i : ℕ) : Type 0 where
+  pub among : k < scratchCells y
+  pub inside : i < getD (scratchWidths y) k 0
+
+-- cell k is a row of w words
+pub record Row (y : Layout) (k : ℕ) : Type 0 where
+  pub low : 18 ≤ k
+  pub high : k < scratchCells y

@@ -1,0 +1,50 @@
+// Single words and slots of the cells of scratch.
+use crate::layout::Layout;
+ghost use mathlib.Core.Path.{_≡_};
+ghost use Prim.Native.Nat.{_+_, _*_, _/_, _≤_, _<_, _^_};
+ghost use lib.ListN.{length};
+ghost use Rattle.bitset.specs.Sets.{member, inserted, removed};
+ghost use Rattle.memory.specs.Cells.{cell, word, store, storeCell};
+ghost use Rattle.memory.specs.Scratch.{scratch, Room, Place, Row};
+
+// Word i of cell k.
+pub fn get(s: &[u64], y: Layout, k: usize, i: usize) -> u64
+    requires { ⌜ Room y (length (now s)) × Place y k i ⌝ }
+    ensures { λ r. ⌜ r ≡ word (scratch y (now (s .entry))) k i ⌝ }
+{
+    let at = y.scratch_start(k) + i;
+    s[at]
+}
+
+// Word i of cell k becomes v.
+pub fn put(s: &mut [u64], y: Layout, k: usize, i: usize, v: u64)
+    requires { ⌜ Room y (length (now s)) × Place y k i ⌝ }
+    ensures { λ _. ⌜ scratch y (now (s .exit)) ≡ store (scratch y (now (s .entry))) k i v ⌝ }
+{
+    let at = y.scratch_start(k) + i;
+    s[at] = v;
+}
+
+// Whether the slot is in row k.
+pub fn contains(s: &[u64], y: Layout, k: usize, slot: usize) -> bool
+    requires { ⌜ Room y (length (now s)) × Row y k × (slot / 64 < y .words) ⌝ }
+    ensures { λ r. ⌜ r ≡ member (cell (scratch y (now (s .entry))) k) slot ⌝ }
+{
+    bitset::contains(s, y.scratch_start(k), slot)
+}
+
+// Puts the slot into row k.
+pub fn insert(s: &mut [u64], y: Layout, k: usize, slot: usize)
+    requires { ⌜ Room y (length (now s)) × Row y k × (slot / 64 < y .words) ⌝ }
+    ensures { λ _. ⌜ scratch y (now (s .exit)) ≡ storeCell (scratch y (now (s .entry))) k (inserted (cell (scratch y (now (s .entry))) k) slot) ⌝ }
+{
+    bitset::insert(s, y.scratch_start(k), slot);
+}
+
+// Takes the slot out of row k.
+pub fn remove(s: &mut [u64], y: Layout, k: usize, slot: usize)
+    requires { ⌜ Room y (length (now s)) × Row y k × (slot / 64 < y .words) ⌝ }
+    ensures { λ _. ⌜ scratch y (now (s .exit)) ≡ storeCell (scratch y (now (s .entry))) k (removed (cell (scratch y (now (s .entry))) k) slot) ⌝ }
+{
+    bitset::remove(s, y.scratch_start(k), slot);
+}
