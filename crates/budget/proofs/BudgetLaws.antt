@@ -2,10 +2,11 @@
 use mathlib.Core.Path.{_≡_, refl, sym, ap, _∙_}
 use mathlib.Core.Bool.{Bool, true, false}
 use mathlib.Core.List.{List, [], _∷_, _++_}
-use Prim.Native.Nat.{ℕ, _+_, _*_, _≤_, _<_}
+use Prim.Native.Nat.{ℕ, zero, suc, _+_, _*_, _-_, _≤_, _<_}
 use native.Mathlib.Omega.{arith}
-use native.Mathlib.Nat.{mul-le-mul}
+use native.Mathlib.Nat.{mul-le-mul, zero-add, suc-add}
 use lib.Dec.{leb}
+use lib.ListN.{replicate}
 use borrow.Author.Tests.{le-leb, lt-leb}
 use Rattle.dataflow.specs.Lists.{pick}
 use Rattle.dataflow.specs.Charges.{Spent, within, crossed, saturatingSum, spend, andThen}
@@ -66,3 +67,23 @@ pub state-small : (blocks words : ℕ) → blocks ≤ 65536 → words ≤ 1024 �
 state-small blocks words h k =
     let g : 32 * words + 264 ≤ 33032 = omega arith in
     mul-le-mul h g
+
+-- ---- a charge of 1 again and again
+
+replicate-append : (j k v : ℕ) → replicate (j + k) v ≡ replicate j v ++ replicate k v
+replicate-append zero k v = ap (λ (n : ℕ). replicate n v) (zero-add k)
+replicate-append (suc j) k v = ap (λ (n : ℕ). replicate n v) (suc-add j k) ∙ ap (λ (l : List ℕ). v ∷ l) (replicate-append j k v)
+
+module _ (l : Limits) (b b′ : FlowBudget) (k : ℕ) (e : charged l b (replicate k 1) ≡ Ok b′) where
+  -- one more
+  pub ones-more : charged l b (replicate (k + 1) 1) ≡ charged l b′ (1 ∷ [])
+  ones-more =
+      ap (charged l b) (replicate-append k 1 1) ∙ charged-append l b (replicate k 1) (1 ∷ []) ∙ ap (λ (r : Charged). andCharged r (λ x. charged l x (1 ∷ []))) e
+
+  -- the one that crosses the limit decides, however many were to follow
+  pub ones-over : (n : ℕ) (x : FlowBudget) → k < n → charged l b′ (1 ∷ []) ≡ Over x → charged l b (replicate n 1) ≡ Over x
+  ones-over n x h f =
+      let q : n ≡ k + 1 + (n - (k + 1)) = omega arith in
+      ap (λ (i : ℕ). charged l b (replicate i 1)) q ∙ ap (charged l b) (replicate-append (k + 1) (n - (k + 1)) 1)
+      ∙ charged-append l b (replicate (k + 1) 1) (replicate (n - (k + 1)) 1)
+      ∙ ap (λ (r : Charged). andCharged r (λ x. charged l x (replicate (n - (k + 1)) 1))) (ones-more ∙ f)

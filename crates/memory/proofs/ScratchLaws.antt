@@ -159,10 +159,14 @@ module _ {y : Layout} (l : List ℕ) (room : Room y (length l)) where
   pub place-inside : {k i : ℕ} → Place y k i → start (scratchWidths y) k + i < length l
   place-inside {k} p = omega (arith, scratch-fits y k)
 
+  -- a cell of width w, which begins at base, in the slice
+  pub cell-lies : {k base w : ℕ} → base ≡ start (scratchWidths y) k → w ≡ width (scratchWidths y) k → Lies (scratchWidths y) l k base w
+  cell-lies e f = record { begins = e; wide = sym f; room = enough }
+
   module _ {k : ℕ} (r : Row y k) where
     -- row k, which begins at base, in the slice
     pub row-lies : {base : ℕ} → base ≡ start (scratchWidths y) k → Lies (scratchWidths y) l k base (y .words)
-    row-lies e = record { begins = e; wide = width-row y k r; room = enough }
+    row-lies e = cell-lies e (sym (width-row y k r))
 
     pub row-length : length (cell (scratch y l) k) ≡ y .words
     row-length = sized-row y scratch-sized r

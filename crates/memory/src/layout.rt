@@ -1,7 +1,7 @@
 // The layout of the two buffers: where each cell begins.
 ghost use mathlib.Core.Path.{_≡_};
 ghost use Prim.Native.Nat.{ℕ, _+_, _*_, _≤_, _<_};
-ghost use lib.ListN.{take};
+ghost use lib.ListN.{take, getD};
 ghost use Rattle.memory.specs.Cells.{total};
 ghost use Rattle.memory.specs.Scratch.{scratchWidths, scratchCells, scratchWords};
 ghost use Rattle.memory.specs.Sets.{setsWidths, setsWords};
@@ -117,6 +117,20 @@ impl Layout {
         ensures { λ r. ⌜ r ≡ setsWords self ⌝ }
     {
         self.blocks * 2 * self.words + self.awaits * (1 + self.words)
+    }
+
+    // How wide cell k of scratch is, if it is no row.
+    pub fn scratch_width(self, k: usize) -> usize
+        requires { ⌜ (self .blocks ≤ 65536) × (k < 18) ⌝ }
+        ensures { λ r. ⌜ r ≡ getD (scratchWidths self) k 0 ⌝ }
+    {
+        if k < 4 {
+            return self.instructions;
+        }
+        if k < 16 {
+            return self.blocks;
+        }
+        2 * self.blocks
     }
 
     // Where cell k of scratch begins.

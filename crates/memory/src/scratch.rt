@@ -2,10 +2,10 @@
 use crate::layout::Layout;
 ghost use mathlib.Core.Path.{_≡_};
 ghost use Prim.Native.Nat.{_+_, _*_, _/_, _≤_, _<_, _^_};
-ghost use lib.ListN.{length};
+ghost use lib.ListN.{length, getD, replicate};
 ghost use Rattle.bitset.specs.Sets.{member, inserted, removed};
 ghost use Rattle.memory.specs.Cells.{cell, word, store, storeCell};
-ghost use Rattle.memory.specs.Scratch.{scratch, Room, Place, Row};
+ghost use Rattle.memory.specs.Scratch.{scratch, scratchWidths, Room, Place, Row};
 
 // Word i of cell k.
 pub fn get(s: &[u64], y: Layout, k: usize, i: usize) -> u64
@@ -23,6 +23,15 @@ pub fn put(s: &mut [u64], y: Layout, k: usize, i: usize, v: u64)
 {
     let at = y.scratch_start(k) + i;
     s[at] = v;
+}
+
+// Each word of cell k, which is no row, becomes 0.
+pub fn clear(s: &mut [u64], y: Layout, k: usize)
+    requires { ⌜ Room y (length (now s)) × (k < 18) ⌝ }
+    ensures { λ _. ⌜ scratch y (now (s .exit)) ≡ storeCell (scratch y (now (s .entry))) k (replicate (getD (scratchWidths y) k 0) 0) ⌝ }
+{
+    let w = y.scratch_width(k);
+    bitset::fill(s, y.scratch_start(k), w, 0);
 }
 
 // Whether the slot is in row k.

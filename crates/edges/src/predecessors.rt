@@ -1,0 +1,59 @@
+// The predecessors of each block, as a chain of edges: edge 2 * b + k is the k-th of block b, and its word in NEXT_EDGE is the next edge that leads
+// to the same block. Edges are taken from the last, so that each chain ascends, as the source lists them.
+use crate::words;
+use memory::layout;
+use memory::layout::Layout;
+ghost use mathlib.Core.Path.{_≡_};
+ghost use Prim.Native.Nat.{_<_, _*_};
+ghost use lib.ListN.{length};
+ghost use Rattle.memory.specs.Scratch.{scratch, Room};
+ghost use Rattle.edges.specs.Edges.{Held, Cleared, predecessorCountCell};
+ghost use Rattle.edges.specs.Predecessors.{Linked};
+ghost use Rattle.edges.specs.Chains.{Linking, Chaining, RoomToCount, linkedIn};
+
+// The last loop of `graph`.
+pub fn predecessors(s: &mut [u64], y: Layout)
+    requires { ⌜ Room y (length (now s)) × Held y (scratch y (now s)) ⌝ }
+    ensures { λ _. ⌜ Linked y (scratch y (now (s .entry))) (scratch y (now (s .exit))) ⌝ }
+{
+    clear_counts(s, y);
+    let mut left = y.blocks;
+    while 0 < left {
+        left -= 1;
+        chain_successors(s, y, left);
+    }
+}
+
+// No edge leads to any block yet.
+fn clear_counts(s: &mut [u64], y: Layout)
+    requires { ⌜ Room y (length (now s)) ⌝ }
+    ensures { λ _. ⌜ Cleared y predecessorCountCell (scratch y (now (s .entry))) (scratch y (now (s .exit))) ⌝ }
+{
+    words::clear(s, y, layout::PREDECESSOR_COUNT);
+}
+
+// The edges of one block, the last first.
+fn chain_successors(s: &mut [u64], y: Layout, block: usize)
+    requires { ⌜ Room y (length (now s)) × (block < y .blocks) × Linking y block (scratch y (now s)) ⌝ }
+    ensures { λ _. ⌜ Chaining y block (scratch y (now (s .entry))) (scratch y (now (s .exit))) ⌝ }
+{
+    let mut k = memory::scratch::get(s, y, layout::SUCCESSOR_COUNT, block) as usize;
+    while 0 < k {
+        k -= 1;
+        let edge = 2 * block + k;
+        let to = memory::scratch::get(s, y, layout::SUCCESSOR, edge) as usize;
+        chain(s, y, edge, to);
+    }
+}
+
+// Puts an edge before the chain of the block that it leads to.
+fn chain(s: &mut [u64], y: Layout, edge: usize, to: usize)
+    requires { ⌜ Room y (length (now s)) × (edge < 2 * y .blocks) × (to < y .blocks) × RoomToCount y to (scratch y (now s)) ⌝ }
+    ensures { λ _. ⌜ scratch y (now (s .exit)) ≡ linkedIn (scratch y (now (s .entry))) edge to ⌝ }
+{
+    let first = memory::scratch::get(s, y, layout::FIRST_EDGE, to);
+    memory::scratch::put(s, y, layout::NEXT_EDGE, edge, first);
+    memory::scratch::put(s, y, layout::FIRST_EDGE, to, edge as u64);
+    let count = memory::scratch::get(s, y, layout::PREDECESSOR_COUNT, to);
+    memory::scratch::put(s, y, layout::PREDECESSOR_COUNT, to, count + 1);
+}

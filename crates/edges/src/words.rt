@@ -1,0 +1,19 @@
+// A cell of a word a block, as a whole.
+use memory::layout::Layout;
+ghost use Prim.Native.Nat.{_≤_, _<_};
+ghost use lib.ListN.{length};
+ghost use Rattle.memory.specs.Scratch.{scratch, Room};
+ghost use Rattle.edges.specs.Edges.{Cleared};
+
+// Each word of cell k becomes 0.
+pub fn clear(s: &mut [u64], y: Layout, k: usize)
+    requires { ⌜ Room y (length (now s)) × (4 ≤ k) × (k < 16) ⌝ }
+    ensures { λ _. ⌜ Cleared y k (scratch y (now (s .entry))) (scratch y (now (s .exit))) ⌝ }
+{
+    let n = y.blocks;
+    let mut b = 0;
+    while b < n {
+        memory::scratch::put(s, y, k, b, 0);
+        b += 1;
+    }
+}

@@ -1,0 +1,25 @@
+-- `memory::layout::Layout::scratch_width` meets its contract. Assumes nothing.
+use mathlib.Core.Path.{sym}
+use native.Mathlib.Omega.{arith}
+use borrow.Author.Needs.{needs}
+use Rattle.memory.proofs.ScratchLaws.{width-instructions, width-blocks, width-edges}
+use Rattle.memory.proofs.layout.Layout.scratch_width.Statement.{statement}
+use Rattle.memory.proofs.layout.Layout.scratch_width.Tie as tie
+
+returns : tie.Need-returns
+returns c =
+    sym (width-instructions (c .before .args .self) (c .before .args .k) (omega arith))
+
+returns-2 : tie.Need-returns-2
+returns-2 c =
+    sym (width-blocks (c .before .before .args .self) (c .before .before .args .k) (omega arith) (omega arith))
+
+mul-result : tie.Need-mul-result
+mul-result c = search needs
+
+returns-3 : tie.Need-returns-3
+returns-3 c =
+    sym (width-edges (c .before .before .before .args .self) (c .before .before .before .args .k) (omega arith) (omega arith))
+
+pub scratch-width-spec : {M : Type 1} → statement M
+scratch-width-spec = tie.close (tie.spec returns returns-2 mul-result returns-3)
