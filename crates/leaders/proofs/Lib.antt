@@ -1,2 +1,5 @@
 -- Laws of numbering.
+pub mod BlockLaws
+pub mod LeaderLaws
+pub mod MarkLaws
 pub mod NumberLaws

@@ -17,7 +17,7 @@ use Rattle.memory.specs.Cells.{Mem, cell, word, store}
 use Rattle.memory.proofs.CellLaws.{cell-store-same, cell-store-other, word-store-same, word-store-other}
 use Rattle.leaders.specs.Numbers.{blockOfCell, leaderCell, marked, startsOf, numbersOf, numberOne, countOne, Numbered}
 
-range-snoc : (k n : ℕ) → range k (suc n) ≡ range k n ++ ((k + n) ∷ [])
+pub range-snoc : (k n : ℕ) → range k (suc n) ≡ range k n ++ ((k + n) ∷ [])
 range-snoc k zero = ap (λ (x : ℕ). x ∷ []) (omega arith)
 range-snoc k (suc n) =
     ap (λ (l : List ℕ). k ∷ l) (range-snoc (suc k) n) ∙ ap (λ (x : ℕ). k ∷ (range (suc k) n ++ (x ∷ []))) (omega arith)

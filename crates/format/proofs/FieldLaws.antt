@@ -1,0 +1,43 @@
+-- The fields of a record one after the other: the steps of the loops over them. Assumes nothing.
+use mathlib.Core.Path.{_≡_, ap, sym}
+use mathlib.Core.Bool.{Bool, false, _||_}
+use mathlib.Core.List.{List}
+use Prim.Native.Nat.{ℕ, suc, _+_, _-_, _≤_, _<_}
+use native.Mathlib.Omega.{arith}
+use lib.Dec.{leb}
+use Rattle.operands.specs.Patterns.{roleAt}
+use Rattle.operands.specs.Bytes.{u32At, numbersAt}
+use Rattle.format.specs.Fields.{anyField, anyAbove}
+use Rattle.format.proofs.Or.{or-assoc, or-false}
+
+-- the loop over the fields of an instruction, at its start, after a turn and at its end
+module _ (f : ℕ → ℕ → Bool) (s : List ℕ) (k : ℕ) where
+  pub fields-start : (body n : ℕ) → anyField f k 0 (numbersAt s body n) ≡ (false || anyField f k 0 (numbersAt s body (n - 0)))
+  fields-start body n = ap (λ (m : ℕ). anyField f k 0 (numbersAt s body m)) (omega arith)
+
+  pub fields-more : (at j n : ℕ) (found t : Bool) → j < n → t ≡ f (roleAt k j) (u32At s at)
+      → (found || anyField f k j (numbersAt s at (n - j))) ≡ ((found || t) || anyField f k (j + 1) (numbersAt s (at + 4) (n - (j + 1))))
+  unfolding numbersAt anyField
+  fields-more at j n found t h e =
+      let q : n - j ≡ suc (n - (j + 1)) = omega arith in
+      rw (q, e) (sym (or-assoc found (f (roleAt k j) (u32At s at)) (anyField f k (j + 1) (numbersAt s (at + 4) (n - (j + 1))))))
+
+  pub fields-end : (at j n : ℕ) (found : Bool) → n ≤ j → (found || anyField f k j (numbersAt s at (n - j))) ≡ found
+  unfolding numbersAt anyField
+  fields-end at j n found h = let q : n - j ≡ 0 = omega arith in rw q (or-false found)
+
+-- the loop over plain numbers
+module _ (bound : ℕ) (s : List ℕ) where
+  pub above-start : (first n : ℕ) → anyAbove bound (numbersAt s first n) ≡ (false || anyAbove bound (numbersAt s first (n - 0)))
+  above-start first n = ap (λ (m : ℕ). anyAbove bound (numbersAt s first m)) (omega arith)
+
+  pub above-more : (at k n : ℕ) (found t : Bool) → k < n → t ≡ leb bound (u32At s at)
+      → (found || anyAbove bound (numbersAt s at (n - k))) ≡ ((found || t) || anyAbove bound (numbersAt s (at + 4) (n - (k + 1))))
+  unfolding numbersAt anyAbove
+  above-more at k n found t h e =
+      let q : n - k ≡ suc (n - (k + 1)) = omega arith in
+      rw (q, e) (sym (or-assoc found (leb bound (u32At s at)) (anyAbove bound (numbersAt s (at + 4) (n - (k + 1))))))
+
+  pub above-end : (at k n : ℕ) (found : Bool) → n ≤ k → (found || anyAbove bound (numbersAt s at (n - k))) ≡ found
+  unfolding numbersAt anyAbove
+  above-end at k n found h = let q : n - k ≡ 0 = omega arith in rw q (or-false found)

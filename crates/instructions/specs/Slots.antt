@@ -1,0 +1,30 @@
+-- A slot where its record stands, and which slots are host slots.
+use mathlib.Core.Path.{_≡_}
+use mathlib.Core.Bool.{Bool, false, _||_}
+use mathlib.Core.List.{List}
+use Prim.Native.Nat.{ℕ, _+_, _<_}
+use lib.Dec.{eqb}
+use Rattle.format.specs.Heads.{short, endAt}
+use Rattle.format.specs.Types.{inlineHost}
+use Rattle.sheet.specs.Decode.{SlotKind, slotOf, offsetOf}
+use Rattle.instructions.specs.declared.slot.SlotRecord.{SlotRecord}
+
+-- document 01, module 6: a host slot has physical 10, or a type that `inline_host` accepts
+unfoldable pub isHost : SlotKind → Bool
+isHost k = eqb (k .physical) 10 || inlineHost (k .type)
+
+-- a slot record stands at an offset
+pub record SlotStands (s : List ℕ) (at : ℕ) : Type 0 where
+  pub whole : short s at ≡ false
+  pub some-body : at + 4 < endAt s at
+
+-- so many of them, one after the other
+pub record SlotsStand (s : List ℕ) (at n : ℕ) : Type 0 where
+  pub each : (k : ℕ) → k < n → SlotStands s (offsetOf s at k)
+
+-- its slot, as the code holds it
+unfoldable pub slotRecordAt : List ℕ → ℕ → SlotRecord
+slotRecordAt s at = record { physical = slotOf s at .physical; «inline_host» = inlineHost (slotOf s at .type); next = endAt s at }
+
+abbrev pub hostRecord : SlotRecord → Bool
+hostRecord r = eqb (r .physical) 10 || r .«inline_host»

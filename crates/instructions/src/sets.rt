@@ -1,0 +1,71 @@
+// The set of parameters and the set of host slots of a sheet that passed, each in a row of words.
+use crate::slot;
+use operands::instruction;
+use sheet::script::Script;
+ghost use mathlib.Core.Path.{_≡_};
+ghost use Prim.Native.Nat.{_+_, _*_, _/_, _≤_, _<_};
+ghost use lib.ListN.{length};
+ghost use Rattle.operands.specs.Bytes.{numbersAt};
+ghost use Rattle.operands.specs.Choice.{pick};
+ghost use Rattle.bitset.specs.Rows.{row, patched, insertedAt};
+ghost use Rattle.sheet.specs.Decode.{slotOf, recordsFrom, partsOf};
+ghost use Rattle.instructions.specs.Slots.{SlotsStand};
+ghost use Rattle.instructions.specs.Sets.{AllBelow, insertedAll, insertedHosts, parameterRow, hostRow};
+ghost use Rattle.instructions.specs.Sound.{Sound};
+
+// Puts so many numbers, which stand from an offset on, into the row at base.
+fn insert_listed(s: &[u8], first: usize, count: usize, words: &mut [u64], base: usize, w: usize)
+    requires { ⌜ (first + 4 * count ≤ length (now s)) × (AllBelow (64 * w) (numbersAt (now s) first count)) × (base + w ≤ length (now words)) ⌝ }
+    ensures { λ _. ⌜ now (words .exit) ≡ patched (now (words .entry)) base (insertedAll (numbersAt (now (s .entry)) first count) (row (now (words .entry)) base w)) ⌝ }
+{
+    let mut at = first;
+    let mut k = 0;
+    while k < count {
+        bitset::insert(words, base, instruction::u32_at(s, at) as usize);
+        at += 4;
+        k += 1;
+    }
+}
+
+// The row at base becomes the set of parameters.
+pub fn insert_parameters(s: &[u8], script: Script, words: &mut [u64], base: usize, w: usize)
+    requires { ⌜ (Sound (now s) script) × (script .slots ≤ 64 * w) × (base + w ≤ length (now words)) ⌝ }
+    ensures { λ _. ⌜ now (words .exit) ≡ patched (now (words .entry)) base (parameterRow (partsOf (now (s .entry))) w) ⌝ }
+{
+    bitset::fill(words, base, w, 0);
+    insert_listed(s, script.params_at, script.params, words, base, w);
+}
+
+// Puts the slot into the set that begins at base, if the test holds.
+fn insert_if(words: &mut [u64], base: usize, slot: usize, test: bool)
+    requires { ⌜ base + slot / 64 < length (now words) ⌝ }
+    ensures { λ _. ⌜ now (words .exit) ≡ pick test (insertedAt (now (words .entry)) base slot) (now (words .entry)) ⌝ }
+{
+    if test {
+        bitset::insert(words, base, slot);
+    }
+}
+
+// Puts those of so many slots, whose records stand from an offset on, that are host slots into the row at base.
+fn insert_host_slots(s: &[u8], first: usize, count: usize, words: &mut [u64], base: usize, w: usize)
+    requires { ⌜ (SlotsStand (now s) first count) × (count ≤ 64 * w) × (base + w ≤ length (now words)) ⌝ }
+    ensures { λ _. ⌜ now (words .exit) ≡ patched (now (words .entry)) base (insertedHosts (recordsFrom (slotOf (now (s .entry))) (now (s .entry)) first count) 0 (row (now (words .entry)) base w)) ⌝ }
+{
+    let mut at = first;
+    let mut k = 0;
+    while k < count {
+        let record = slot::slot_at(s, at);
+        insert_if(words, base, k, record.is_host());
+        at = record.next;
+        k += 1;
+    }
+}
+
+// The row at base becomes the set of host slots.
+pub fn insert_hosts(s: &[u8], script: Script, words: &mut [u64], base: usize, w: usize)
+    requires { ⌜ (Sound (now s) script) × (script .slots ≤ 64 * w) × (base + w ≤ length (now words)) ⌝ }
+    ensures { λ _. ⌜ now (words .exit) ≡ patched (now (words .entry)) base (hostRow (partsOf (now (s .entry))) w) ⌝ }
+{
+    bitset::fill(words, base, w, 0);
+    insert_host_slots(s, script.slots_at, script.slots, words, base, w);
+}

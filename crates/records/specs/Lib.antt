@@ -1,0 +1,2 @@
+-- The checks of one record.
+pub mod Records

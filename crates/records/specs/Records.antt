@@ -1,0 +1,79 @@
+-- The checks of one record: which refusal is due, the least number first. Document 01, "Refusal table".
+use mathlib.Core.Bool.{Bool, _||_, _&&_, not}
+use mathlib.Core.List.{List}
+use mathlib.Core.Option.{Option, none, some}
+use Prim.Native.Nat.{ℕ, _+_, _/_, _%_}
+use lib.Dec.{eqb, leb, ltb}
+use lib.ListN.{getD}
+use Rattle.operands.specs.Patterns.{fits}
+use Rattle.format.specs.declared.refusal.Refusal.{Refusal}
+use Rattle.format.specs.declared.refusal.Refusal.the-variants.{ShortSheet, WrongKind, BadBody, NoSuchSlot, NoSuchTarget}
+use Rattle.records.specs.declared.record.Step.{Step}
+use Rattle.records.specs.declared.record.Step.the-variants.{Next, Stop}
+use Rattle.format.specs.Refusals.{due}
+use Rattle.format.specs.Heads.{short, kindAt, endAt, bodyLength, fieldsAt}
+use Rattle.format.specs.Types.{wholeType, endsWith}
+use Rattle.format.specs.Fields.{badModule, noSlot, noTarget, anyField, anyAbove}
+
+-- kind 256, function: three numbers (id, slot count, N), not yet judged
+unfoldable pub functionFault : List ℕ → ℕ → Option Refusal
+functionFault s at =
+    due (short s at) ShortSheet
+    (due (not (eqb (kindAt s at) 256)) WrongKind
+    (due (not (eqb (bodyLength s at) 12)) BadBody
+    none))
+
+-- kind 257, parameter slots
+unfoldable pub parametersFault : List ℕ → ℕ → ℕ → Option Refusal
+parametersFault s slots at =
+    due (short s at) ShortSheet
+    (due (not (eqb (kindAt s at) 257)) WrongKind
+    (due (not (eqb (bodyLength s at % 4) 0)) BadBody
+    (due (anyAbove slots (fieldsAt s at)) NoSuchSlot
+    none)))
+
+-- 3: a slot's body that is not one physical byte, 0 to 12, then a type
+unfoldable pub badSlot : List ℕ → ℕ → ℕ → Bool
+badSlot s body end = leb end body || (ltb 12 (getD s body 0) || not (endsWith end (wholeType s end (body + 1))))
+
+-- kind 258, a slot
+unfoldable pub slotFault : List ℕ → ℕ → Option Refusal
+slotFault s at =
+    due (short s at) ShortSheet
+    (due (not (eqb (kindAt s at) 258)) WrongKind
+    (due (badSlot s (at + 4) (endAt s at)) BadBody
+    none))
+
+-- a kind of instruction
+abbrev pub isInstruction : ℕ → Bool
+isInstruction k = leb 1 k && leb k 41
+
+-- 3: an instruction's body with so many bytes or such module slots as its pattern does not allow
+unfoldable pub badInstruction : List ℕ → ℕ → Bool
+badInstruction s at =
+    not (eqb (bodyLength s at % 4) 0)
+    || (not (fits (kindAt s at) (bodyLength s at / 4)) || anyField badModule (kindAt s at) 0 (fieldsAt s at))
+
+-- kinds 1 to 41, an instruction
+unfoldable pub instructionFault : List ℕ → ℕ → ℕ → ℕ → Option Refusal
+instructionFault s slots n at =
+    due (short s at) ShortSheet
+    (due (not (isInstruction (kindAt s at))) WrongKind
+    (due (badInstruction s at) BadBody
+    (due (anyField (noSlot slots) (kindAt s at) 0 (fieldsAt s at)) NoSuchSlot
+    (due (anyField (noTarget n) (kindAt s at) 0 (fieldsAt s at)) NoSuchTarget
+    none))))
+
+-- 3, 7 and 8 of the fields
+abbrev pub fieldsFault : Bool → Bool → Bool → Option Refusal
+fieldsFault modules slots targets = due modules BadBody (due slots NoSuchSlot (due targets NoSuchTarget none))
+
+-- the code's answer: the refusal that is due, or where the next record begins and this one's kind
+abbrev pub stepOf : Option Refusal → ℕ → ℕ → Step
+stepOf (some r) end kind = Stop r
+stepOf none end kind = Next end kind
+
+-- the refusal in the code's answer
+abbrev pub refusalIn : Step → Refusal
+refusalIn (Stop r) = r
+refusalIn (Next end kind) = ShortSheet

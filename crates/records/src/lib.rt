@@ -1,0 +1,2 @@
+// The checks of one record of a sheet.
+pub mod record;

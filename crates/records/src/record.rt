@@ -1,0 +1,151 @@
+// The checks of one record, the least number of the refusal table first.
+use format::fields;
+use format::fields::Faults;
+use format::head;
+use format::head::Head;
+use format::refusal::Refusal;
+use format::types;
+use format::types::Typed;
+use operands::pattern::Pattern;
+ghost use mathlib.Core.Path.{_≡_};
+ghost use Prim.Native.Nat.{_≤_};
+ghost use lib.ListN.{length};
+ghost use Rattle.format.specs.Heads.{kindAt, endAt};
+ghost use Rattle.records.specs.Records.{stepOf, refusalIn, badSlot, fieldsFault, functionFault, parametersFault, slotFault, instructionFault};
+
+pub const FUNCTION: usize = 256;
+
+pub const PARAMETERS: usize = 257;
+
+pub const SLOT: usize = 258;
+
+pub enum Step {
+    // A record that passed: where the next one begins, and this one's kind.
+    Next(usize, usize),
+    Stop(Refusal),
+}
+
+impl Step {
+    // Why a record did not pass; of one that did, it says nothing.
+    pub fn refusal(self) -> Refusal
+        ensures { λ r. ⌜ r ≡ refusalIn self ⌝ }
+    {
+        match self {
+            Step::Stop(why) => why,
+            Step::Next(_, _) => Refusal::ShortSheet,
+        }
+    }
+}
+
+// The function record at an offset, its numbers not yet judged.
+pub fn function_record(s: &[u8], at: usize) -> Step
+    ensures { λ r. ⌜ r ≡ stepOf (functionFault (now (s .entry)) at) (endAt (now (s .entry)) at) (kindAt (now (s .entry)) at) ⌝ }
+{
+    let Head::Record(kind, body, end) = head::head_at(s, at) else {
+        return Step::Stop(Refusal::ShortSheet);
+    };
+    if kind != FUNCTION {
+        return Step::Stop(Refusal::WrongKind);
+    }
+    if end - body != 12 {
+        return Step::Stop(Refusal::BadBody);
+    }
+    Step::Next(end, kind)
+}
+
+// The parameter record at an offset.
+pub fn parameter_record(s: &[u8], slots: usize, at: usize) -> Step
+    ensures { λ r. ⌜ r ≡ stepOf (parametersFault (now (s .entry)) slots at) (endAt (now (s .entry)) at) (kindAt (now (s .entry)) at) ⌝ }
+{
+    let Head::Record(kind, body, end) = head::head_at(s, at) else {
+        return Step::Stop(Refusal::ShortSheet);
+    };
+    if kind != PARAMETERS {
+        return Step::Stop(Refusal::WrongKind);
+    }
+    let len = end - body;
+    if len % 4 != 0 {
+        return Step::Stop(Refusal::BadBody);
+    }
+    if fields::any_above(s, body, len / 4, slots) {
+        return Step::Stop(Refusal::NoSuchSlot);
+    }
+    Step::Next(end, kind)
+}
+
+// Whether the body of a slot record does not fit: one physical byte, 0 to 12, then a type that ends with the record.
+fn bad_slot(s: &[u8], body: usize, end: usize) -> bool
+    requires { ⌜ end ≤ length (now s) ⌝ }
+    ensures { λ r. ⌜ r ≡ badSlot (now (s .entry)) body end ⌝ }
+{
+    if end <= body {
+        return true;
+    }
+    if 12 < s[body] {
+        return true;
+    }
+    let Typed::Got(next, _) = types::whole_type(s, body + 1, end) else {
+        return true;
+    };
+    next != end
+}
+
+// The slot record at an offset.
+pub fn slot_record(s: &[u8], at: usize) -> Step
+    ensures { λ r. ⌜ r ≡ stepOf (slotFault (now (s .entry)) at) (endAt (now (s .entry)) at) (kindAt (now (s .entry)) at) ⌝ }
+{
+    let Head::Record(kind, body, end) = head::head_at(s, at) else {
+        return Step::Stop(Refusal::ShortSheet);
+    };
+    if kind != SLOT {
+        return Step::Stop(Refusal::WrongKind);
+    }
+    if bad_slot(s, body, end) {
+        return Step::Stop(Refusal::BadBody);
+    }
+    Step::Next(end, kind)
+}
+
+// What is wrong with the fields as an answer: 3, then 7, then 8.
+fn fields_step(f: Faults, end: usize, kind: usize) -> Step
+    ensures { λ r. ⌜ r ≡ stepOf (fieldsFault (f .modules) (f .slots) (f .targets)) end kind ⌝ }
+{
+    if f.modules {
+        return Step::Stop(Refusal::BadBody);
+    }
+    if f.slots {
+        return Step::Stop(Refusal::NoSuchSlot);
+    }
+    if f.targets {
+        return Step::Stop(Refusal::NoSuchTarget);
+    }
+    Step::Next(end, kind)
+}
+
+// The instruction record at an offset: kinds 1 to 41, each by its pattern.
+pub fn instruction_record(s: &[u8], slots: usize, count: usize, at: usize) -> Step
+    ensures { λ r. ⌜ r ≡ stepOf (instructionFault (now (s .entry)) slots count at) (endAt (now (s .entry)) at) (kindAt (now (s .entry)) at) ⌝ }
+{
+    let Head::Record(kind, body, end) = head::head_at(s, at) else {
+        return Step::Stop(Refusal::ShortSheet);
+    };
+    if kind < 1 {
+        return Step::Stop(Refusal::WrongKind);
+    }
+    if 41 < kind {
+        return Step::Stop(Refusal::WrongKind);
+    }
+    let pattern = Pattern::of(kind);
+    let len = end - body;
+    if len % 4 != 0 {
+        return Step::Stop(Refusal::BadBody);
+    }
+    if pattern.fits(len / 4) {
+        return fields_step(
+            fields::field_faults(s, pattern, body, len / 4, slots, count),
+            end,
+            kind,
+        );
+    }
+    Step::Stop(Refusal::BadBody)
+}

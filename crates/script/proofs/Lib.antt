@@ -1,0 +1,2 @@
+-- A sheet that passed is checked code.
+pub mod ScriptLaws

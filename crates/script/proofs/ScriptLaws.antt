@@ -1,0 +1,153 @@
+-- The code of a sheet that passed meets the side conditions of every law on code. Assumes nothing.
+use mathlib.Core.Path.{_≡_, refl, sym, ap, subst, _∙_}
+use mathlib.Core.Bool.{Bool, true, false, _||_, true≢false, false≢true}
+use mathlib.Core.List.{List, [], _∷_, map, List·Memᴰ, List·Memᴰ·not-nil, List·Memᴰ·cases-cons}
+use mathlib.Core.Logic.{_⊎_, inl, inr}
+use mathlib.Core.Option.{Option, none, some}
+use Prim.Native.Nat.{ℕ, zero, suc, _+_, _-_, _≤_, _<_}
+use native.Mathlib.Decide.{decLt}
+use native.Mathlib.Omega.{arith}
+use lib.Dec.{T, eqb}
+use lib.ListN.{length, getD, replicate}
+use borrow.Author.Tests.{eqb-true}
+use Rattle.dataflow.specs.Lists.{elem}
+use Rattle.dataflow.specs.Program.{Program}
+use Rattle.dataflow.specs.Code as flow
+use Rattle.dataflow.specs.Checked.{Checked}
+use Rattle.operands.specs.Kinds.{endsBlock}
+use Rattle.operands.specs.Places.{Place, gathered}
+use Rattle.operands.specs.Variants.{variants, jumpTargets}
+use Rattle.operands.specs.Operands.{bySource, inputsOf, outputOf, targetsOf}
+use Rattle.operands.proofs.Table.{at}
+use Rattle.operands.specs.Instructions.{valuesOf}
+use Rattle.sheet.specs.declared.script.Script.{Script}
+use Rattle.sheet.specs.Decode.{Instruction, Parts, partsOf, instructionOf}
+use Rattle.instructions.specs.Sets.{AllBelow}
+use Rattle.instructions.specs.Sound.{Sound, codeInstruction}
+use Rattle.instructions.proofs.SetMembers.{records-count}
+use Rattle.script.specs.Script.{listOf, flowInstruction, flowCode, parameterIn}
+
+-- ---- lists
+
+length-map : {A B : Type 0} (f : A → B) (l : List A) → length (map f l) ≡ length l
+length-map f [] = refl
+length-map f (x ∷ l) = ap suc (length-map f l)
+
+getD-map : {A B : Type 0} (f : A → B) (l : List A) (k : ℕ) (d : B) (e : A) → k < length l → getD (map f l) k d ≡ f (getD l k e)
+getD-map f [] k d e h = absurd (omega arith)
+getD-map f (x ∷ l) zero d e h = refl
+getD-map f (x ∷ l) (suc k) d e h = getD-map f l k d e (omega arith)
+
+getD-past : {A : Type 0} (l : List A) (k : ℕ) (d : A) → length l ≤ k → getD l k d ≡ d
+getD-past [] zero d h = refl
+getD-past [] (suc k) d h = refl
+getD-past (x ∷ l) zero d h = absurd (omega arith)
+getD-past (x ∷ l) (suc k) d h = getD-past l k d (omega arith)
+
+-- what stands in a list of numbers below n is below n
+pub elem-below : (n x : ℕ) (l : List ℕ) → AllBelow n l → elem x l ≡ true → x < n
+elem-below n x [] b e = absurd (false≢true e)
+elem-below n x (y ∷ l) b e = go (eqb x y) refl e (elem-below n x l (b .1))
+  where
+    go : (t : Bool) → eqb x y ≡ t → (t || elem x l) ≡ true → (elem x l ≡ true → x < n) → x < n
+    go true q e f = let z = eqb-true x y q in omega (arith, b .0)
+    go false q e f = f e
+
+mem-below : (n x : ℕ) (l : List ℕ) → AllBelow n l → List·Memᴰ x l → x < n
+mem-below n x [] b m = absurd (List·Memᴰ·not-nil m)
+mem-below n x (y ∷ l) b m = go (List·Memᴰ·cases-cons m) (mem-below n x l (b .1))
+  where
+    go : (x ≡ y) ⊎ List·Memᴰ x l → (List·Memᴰ x l → x < n) → x < n
+    go (inl e) f = omega (arith, b .0)
+    go (inr q) f = f q
+
+-- ---- the code of a sheet that passed
+
+module _ (s : List ℕ) (x : Script) (h : Sound s x) where
+  abbrev pub code : List flow.Instruction
+  code = flowCode (partsOf s)
+
+  -- the k-th instruction, as it is read where it stands
+  abbrev pub read : ℕ → Instruction
+  read k = record { kind = codeInstruction s x k .pattern .kind; fields = valuesOf s (codeInstruction s x k) }
+
+  code-count : length (partsOf s .code) ≡ x .count
+  code-count = ap length (h .code-are) ∙ records-count (instructionOf s) s (x .«code_at») (x .count)
+
+  pub code-length : length (flowCode (partsOf s)) ≡ x .count
+  unfolding flowCode
+  code-length = length-map flowInstruction (partsOf s .code) ∙ code-count
+
+  pub code-at : (k : ℕ) → k < x .count → flow.instructionAt (flowCode (partsOf s)) k ≡ flowInstruction (read k)
+  unfolding flowCode
+  code-at k l =
+      getD-map flowInstruction (partsOf s .code) k flow.outside (record { kind = 0; fields = [] }) (omega (arith, code-count))
+      ∙ ap flowInstruction (h .instruction-is k l)
+
+  pub code-past : (k : ℕ) → x .count ≤ k → flow.instructionAt (flowCode (partsOf s)) k ≡ flow.outside
+  code-past k l = getD-past (flowCode (partsOf s)) k flow.outside (omega (arith, code-length))
+
+  -- a property of every instruction, inside the code and past its end
+  everywhere : (P : flow.Instruction → Type 0) → ((k : ℕ) → k < x .count → P (flowInstruction (read k))) → P flow.outside
+      → (k : ℕ) → P (flow.instructionAt (flowCode (partsOf s)) k)
+  everywhere P f g k = go (decLt k (x .count))
+    where
+      go : Dec (k < x .count) → P (flow.instructionAt (flowCode (partsOf s)) k)
+      go (yes l) = subst P (sym (code-at k l)) (f k l)
+      go (no l) = subst P (sym (code-past k (omega arith))) g
+
+  pub checked : Checked (flowCode (partsOf s)) (parameterIn (partsOf s)) (x .slots)
+  unfolding parameterIn
+  checked = record {
+    some-code = omega (arith, code-length, h .some-code);
+    reads-below = λ i t. everywhere (λ v. elem t (v .inputs) ≡ true → t < x .slots)
+        (λ k l. elem-below (x .slots) t (inputsOf (read k .kind) (read k .fields)) (h .inputs-below k l)) (λ e. absurd (false≢true e)) i;
+    writes-below = λ i t. everywhere (λ v. elem t (v .outputs) ≡ true → t < x .slots)
+        (λ k l. written k l (outputOf (read k .kind) (read k .fields)) refl) (λ e. absurd (false≢true e)) i;
+    parameters-below = λ t e. elem-below (x .slots) t (partsOf s .params) (h .params-below) e;
+    targets-below = λ i t. everywhere (λ v. List·Memᴰ t (v .targets) → t < length (flowCode (partsOf s)))
+        (λ k l m. subst (λ (n : ℕ). t < n) (sym code-length) (mem-below (x .count) t (targetsOf (read k .kind) (read k .fields)) (h .targets-below k l) m)) (λ m. absurd (List·Memᴰ·not-nil m)) i;
+    closed-end = λ i e. ends i (omega (arith, code-length));
+  }
+    where
+      written : (k : ℕ) → k < x .count → (o : Option ℕ) → outputOf (read k .kind) (read k .fields) ≡ o → {t : ℕ} → elem t (listOf o) ≡ true → t < x .slots
+      written k l none q e = absurd (false≢true e)
+      written k l (some y) q {t} e = elem-below (x .slots) t (y ∷ []) (h .output-below k y l q, tt) e
+
+      ends : (i : ℕ) → suc i ≡ x .count → flow.instructionAt (flowCode (partsOf s)) i .ends ≡ true
+      ends i e =
+          let q : i ≡ x .count - 1 = omega arith in
+          ap (λ (v : flow.Instruction). v .ends) (code-at i (omega arith)) ∙ ap (λ (j : ℕ). flowInstruction (read j) .ends) q ∙ h .last-ends
+
+-- ---- only an instruction that ends a block has targets
+
+empty : List Place → Bool
+empty [] = true
+empty (p ∷ ps) = false
+
+-- the computed test: each kind ends a block or names no target
+unfoldable still : ℕ → ℕ → Bool
+still k z = endsBlock (k + 1) || empty (bySource (k + 1) .targets)
+
+all-still : (k : ℕ) → k < 41 → T (still k (getD (replicate 41 0) k 0))
+unfolding still bySource variants jumpTargets endsBlock empty
+all-still k h = at still (replicate 41 0) tt k h
+
+targets-still : (k : ℕ) (v : List ℕ) → 1 ≤ k → k ≤ 41 → endsBlock k ≡ false → targetsOf k v ≡ []
+unfolding still empty targetsOf gathered
+targets-still k v l h e =
+    let q : k - 1 + 1 ≡ k = omega arith in
+    let t : T (endsBlock k || empty (bySource k .targets)) =
+    subst (λ (n : ℕ). T (endsBlock n || empty (bySource n .targets))) q (all-still (k - 1) (omega arith)) in
+    go (bySource k .targets) (rw e at t)
+  where
+    go : (ps : List Place) → T (empty ps) → gathered ps v ≡ []
+    go [] t = refl
+    go (p ∷ ps) t = absurd t
+
+-- an instruction of a sheet that passed has targets only if it ends a block
+pub quiet : (s : List ℕ) (x : Script) → Sound s x → (k : ℕ) → flow.instructionAt (flowCode (partsOf s)) k .ends ≡ false
+    → flow.instructionAt (flowCode (partsOf s)) k .targets ≡ []
+quiet s x h = everywhere s x h (λ v. v .ends ≡ false → v .targets ≡ [])
+    (λ k l e. let p = h .readable k l .known in targets-still (codeInstruction s x k .pattern .kind) (valuesOf s (codeInstruction s x k)) (p .low) (p .high) e)
+    (λ e. absurd (true≢false e))

@@ -1,0 +1,2 @@
+-- A decoded sheet as a program.
+pub mod Script

@@ -1,0 +1,1 @@
+// A decoded sheet as a program: definitions and laws only.

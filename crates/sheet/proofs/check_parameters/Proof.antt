@@ -1,0 +1,87 @@
+-- `sheet::check_parameters` meets its contract. Assumes nothing.
+use native.Mathlib.Omega.{arith}
+use denote.Ref.{now}
+use borrow.Author.Needs.{needs}
+use Rattle.format.specs.Heads.{kindAt, endAt}
+use Rattle.records.specs.Records.{parametersFault}
+use Rattle.sheet.specs.Stages.{atParameters}
+use Rattle.format.proofs.HeadLaws.{lies}
+use Rattle.records.proofs.Passed.{parameters-passed}
+use Rattle.sheet.proofs.WalkLaws.{went, halted}
+use Rattle.sheet.proofs.check_parameters.Statement.{statement}
+use Rattle.sheet.proofs.check_parameters.Tie as tie
+
+parameter-record-requires : tie.Need-parameter-record-requires
+parameter-record-requires c κs = search needs
+
+enum-known-step : tie.Need-enum-known-step
+enum-known-step c = search needs
+
+enum-told : tie.Need-enum-told
+enum-told c = search needs
+
+refusal-requires : tie.Need-refusal-requires
+refusal-requires c κs = search needs
+
+returns : tie.Need-returns
+unfolding atParameters
+returns c =
+    let a = c .before .before .before .before .before .args in
+    let s = now (a .s) in
+    let t = c .before .enum-told .given in
+    let h = halted (parametersFault s (a .slots) (a .at)) (endAt s (a .at)) (kindAt s (a .at)) (t .0 .0) (cc) in
+    rw (c .refusal .ensures, t .1, h)
+
+add-t9 : tie.Need-add-t9
+add-t9 c =
+    let a = c .before .before .before .before .before .args in
+    let s = now (a .s) in
+    let g = c .before .step .given in
+    let w = went (parametersFault s (a .slots) (a .at)) (endAt s (a .at)) (kindAt s (a .at)) (g .0 .0) (g .0 .1 .0) (cc) in
+    let l = lies s (a .at) (parameters-passed s (a .slots) (a .at) (w .no-fault) .whole) in
+    omega (arith, l .ordered, l .within)
+
+add-t10 : tie.Need-add-t10
+add-t10 c =
+    let a = c .before .before .before .before .before .args in
+    let s = now (a .s) in
+    let g = c .before .step .given in
+    let w = went (parametersFault s (a .slots) (a .at)) (endAt s (a .at)) (kindAt s (a .at)) (g .0 .0) (g .0 .1 .0) (cc) in
+    let l = lies s (a .at) (parameters-passed s (a .slots) (a .at) (w .no-fault) .whole) in
+    omega (arith, l .ordered, l .within)
+
+sub-t11 : tie.Need-sub-t11
+sub-t11 c =
+    let a = c .before .before .before .before .before .args in
+    let s = now (a .s) in
+    let g = c .before .step .given in
+    let w = went (parametersFault s (a .slots) (a .at)) (endAt s (a .at)) (kindAt s (a .at)) (g .0 .0) (g .0 .1 .0) (cc) in
+    let l = lies s (a .at) (parameters-passed s (a .slots) (a .at) (w .no-fault) .whole) in
+    omega (arith, l .ordered, w .is-end)
+
+check-slots-requires : tie.Need-check-slots-requires
+check-slots-requires c κs = search needs
+
+returns-2 : tie.Need-returns-2
+unfolding atParameters
+returns-2 c =
+    let a = c .before .before .before .before .before .before .args in
+    let s = now (a .s) in
+    let g = c .before .before .step .given in
+    let w = went (parametersFault s (a .slots) (a .at)) (endAt s (a .at)) (kindAt s (a .at)) (g .0 .0) (g .0 .1 .0) (cc) in
+    rw (w .no-fault, ← w .is-end) (c .check-slots .ensures)
+
+pub check-parameters-spec : {M : Type 1} → statement M
+check-parameters-spec =
+    tie.close
+    (tie.spec
+    parameter-record-requires
+    enum-known-step
+    enum-told
+    refusal-requires
+    returns
+    add-t9
+    add-t10
+    sub-t11
+    check-slots-requires
+    returns-2)

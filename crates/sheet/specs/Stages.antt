@@ -1,0 +1,109 @@
+-- What each stage of the code answers. `Checks` says what the answer of all of them together is.
+use mathlib.Core.Bool.{Bool, not}
+use mathlib.Core.List.{List}
+use mathlib.Core.Option.{Option, none, some}
+use Prim.Native.Nat.{ℕ, zero, suc, _+_, _-_, _/_}
+use lib.Dec.{eqb}
+use lib.ListN.{length}
+use Rattle.operands.specs.Choice.{pick}
+use Rattle.operands.specs.Kinds.{endsBlock, isAwait}
+use Rattle.format.specs.declared.refusal.Refusal.{Refusal}
+use Rattle.format.specs.declared.refusal.Refusal.the-variants.{ShortSheet, LeftOver, OpenEnd}
+use Rattle.records.specs.declared.record.Step.{Step}
+use Rattle.format.specs.Refusals.{due, orElse}
+use Rattle.format.specs.Heads.{kindAt, endAt}
+use Rattle.records.specs.Records.{parametersFault, slotFault, instructionFault, stepOf}
+use Rattle.sheet.specs.declared.script.Script.{Script}
+use Rattle.sheet.specs.declared.script.Checked.{Checked}
+use Rattle.sheet.specs.declared.script.Checked.the-variants.{Passed, Refused}
+use Rattle.sheet.specs.declared.walk.Code.{Code}
+use Rattle.sheet.specs.declared.walk.Code.the-variants.{Ended, Stop}
+use Rattle.sheet.specs.Decode.{sizesFault, offsetOf}
+
+-- the first bad one of n records of one sort, from an offset on
+unfoldable pub firstOf : (ℕ → Option Refusal) → List ℕ → ℕ → ℕ → Option Refusal
+firstOf fault s at zero = none
+firstOf fault s at (suc n) = orElse (fault at) (firstOf fault s (endAt s at) n)
+
+-- the kind of the last one, or k if there is none
+unfoldable pub lastKind : List ℕ → ℕ → ℕ → ℕ → ℕ
+lastKind s at zero k = k
+lastKind s at (suc n) k = lastKind s (endAt s at) n (kindAt s at)
+
+abbrev pub oneIf : Bool → ℕ
+oneIf b = pick b 1 0
+
+-- how many of them are awaits
+unfoldable pub awaitsFrom : List ℕ → ℕ → ℕ → ℕ
+awaitsFrom s at zero = 0
+awaitsFrom s at (suc n) = oneIf (isAwait (kindAt s at)) + awaitsFrom s (endAt s at) n
+
+abbrev pub walkedSlots : List ℕ → ℕ → ℕ → Step
+walkedSlots s slots at = stepOf (firstOf (λ a. slotFault s a) s at slots) (offsetOf s at slots) 258
+
+abbrev pub codeOf : Option Refusal → ℕ → ℕ → ℕ → Code
+codeOf (some r) end last awaits = Stop r
+codeOf none end last awaits = Ended end last awaits
+
+abbrev pub walkedCode : List ℕ → ℕ → ℕ → ℕ → Code
+walkedCode s slots n at =
+    codeOf (firstOf (λ a. instructionFault s slots n a) s at n) (offsetOf s at n) (lastKind s at n 0) (awaitsFrom s at n)
+
+abbrev pub refusalInCode : Code → Refusal
+refusalInCode (Stop r) = r
+refusalInCode (Ended end last awaits) = ShortSheet
+
+-- the refusal that is due, or what follows it
+abbrev pub answer : Option Refusal → ℕ → Checked → Checked
+answer (some r) id rest = Refused r id
+answer none id rest = rest
+
+-- a script with the place of its instructions, and with the number of its awaits
+abbrev pub withCode : Script → ℕ → ℕ → Script
+withCode x at awaits = record {
+  id = x .id;
+  slots = x .slots;
+  count = x .count;
+  «params_at» = x .«params_at»;
+  params = x .params;
+  «slots_at» = x .«slots_at»;
+  «code_at» = at;
+  awaits = awaits;
+}
+
+-- 4, then 9
+unfoldable pub atEnd : List ℕ → Script → ℕ → ℕ → Checked
+atEnd s x end last =
+    answer (due (not (eqb end (length s))) LeftOver (due (not (endsBlock last)) OpenEnd none)) (x .id) (Passed x)
+
+-- the instruction records
+unfoldable pub atCode : List ℕ → Script → Checked
+atCode s x =
+    answer (firstOf (λ a. instructionFault s (x .slots) (x .count) a) s (x .«code_at») (x .count)) (x .id)
+    (atEnd s (withCode x (x .«code_at») (awaitsFrom s (x .«code_at») (x .count))) (offsetOf s (x .«code_at») (x .count))
+    (lastKind s (x .«code_at») (x .count) 0))
+
+-- the slot records
+unfoldable pub atSlots : List ℕ → Script → Checked
+atSlots s x =
+    answer (firstOf (λ a. slotFault s a) s (x .«slots_at») (x .slots)) (x .id)
+    (atCode s (withCode x (offsetOf s (x .«slots_at») (x .slots)) 0))
+
+-- the parameter record
+unfoldable pub atParameters : List ℕ → ℕ → ℕ → ℕ → ℕ → Checked
+atParameters s id slots n at =
+    answer (parametersFault s slots at) id
+    (atSlots s (record {
+      id = id;
+      slots = slots;
+      count = n;
+      «params_at» = at + 4;
+      params = (endAt s at - (at + 4)) / 4;
+      «slots_at» = endAt s at;
+      «code_at» = 0;
+      awaits = 0;
+    }))
+
+-- 5, then 6
+unfoldable pub atSizes : List ℕ → ℕ → ℕ → ℕ → ℕ → Checked
+atSizes s id slots n at = answer (sizesFault slots n) id (atParameters s id slots n at)

@@ -1,0 +1,129 @@
+// The checks 1 to 9 of a sheet, stage by stage, each ending in a call of the next.
+pub mod script;
+pub mod walk;
+
+use format::refusal::Refusal;
+use operands::instruction;
+use operands::kinds;
+use records::record;
+use records::record::Step;
+use script::Checked;
+use script::Script;
+use walk::Code;
+ghost use mathlib.Core.Path.{_≡_};
+ghost use Rattle.sheet.specs.Checks.{Checks};
+ghost use Rattle.sheet.specs.Stages.{atEnd, atCode, atSlots, atParameters, atSizes};
+
+// After the last record: 4, then 9.
+fn check_end(s: &[u8], script: Script, end: usize, last: usize) -> Checked
+    ensures { λ r. ⌜ r ≡ atEnd (now (s .entry)) script end last ⌝ }
+{
+    if end != s.len() {
+        return Checked::Refused(Refusal::LeftOver, script.id);
+    }
+    if kinds::ends_block(last) {
+        return Checked::Passed(script);
+    }
+    Checked::Refused(Refusal::OpenEnd, script.id)
+}
+
+// From the instruction records on.
+fn check_code(s: &[u8], script: Script) -> Checked
+    ensures { λ r. ⌜ r ≡ atCode (now (s .entry)) script ⌝ }
+{
+    let code = walk::walk_code(s, script.slots, script.count, script.code_at);
+    let Code::Ended(end, last, awaits) = code else {
+        return Checked::Refused(code.refusal(), script.id);
+    };
+    check_end(
+        s,
+        Script {
+            id: script.id,
+            slots: script.slots,
+            count: script.count,
+            params_at: script.params_at,
+            params: script.params,
+            slots_at: script.slots_at,
+            code_at: script.code_at,
+            awaits: awaits,
+        },
+        end,
+        last,
+    )
+}
+
+// From the slot records on.
+fn check_slots(s: &[u8], script: Script) -> Checked
+    ensures { λ r. ⌜ r ≡ atSlots (now (s .entry)) script ⌝ }
+{
+    let step = walk::walk_slots(s, script.slots, script.slots_at);
+    let Step::Next(next, _) = step else {
+        return Checked::Refused(step.refusal(), script.id);
+    };
+    check_code(
+        s,
+        Script {
+            id: script.id,
+            slots: script.slots,
+            count: script.count,
+            params_at: script.params_at,
+            params: script.params,
+            slots_at: script.slots_at,
+            code_at: next,
+            awaits: 0,
+        },
+    )
+}
+
+// From the parameter record on.
+fn check_parameters(s: &[u8], id: u32, slots: usize, count: usize, at: usize) -> Checked
+    ensures { λ r. ⌜ r ≡ atParameters (now (s .entry)) id slots count at ⌝ }
+{
+    let step = record::parameter_record(s, slots, at);
+    let Step::Next(next, _) = step else {
+        return Checked::Refused(step.refusal(), id);
+    };
+    check_slots(
+        s,
+        Script {
+            id: id,
+            slots: slots,
+            count: count,
+            params_at: at + 4,
+            params: (next - (at + 4)) / 4,
+            slots_at: next,
+            code_at: 0,
+            awaits: 0,
+        },
+    )
+}
+
+// The numbers of the function record: 5, then 6.
+fn check_sizes(s: &[u8], id: u32, slots: usize, count: usize, at: usize) -> Checked
+    ensures { λ r. ⌜ r ≡ atSizes (now (s .entry)) id slots count at ⌝ }
+{
+    if 65536 < slots {
+        return Checked::Refused(Refusal::TooMany, id);
+    }
+    if 65536 < count {
+        return Checked::Refused(Refusal::TooMany, id);
+    }
+    if count == 0 {
+        return Checked::Refused(Refusal::NoCode, id);
+    }
+    check_parameters(s, id, slots, count, at)
+}
+
+// The checks 1 to 9. The function's id is 0 until the function record has passed 1 to 3.
+pub fn check(s: &[u8]) -> Checked
+    ensures { λ r. ⌜ Checks (now (s .entry)) r ⌝ }
+{
+    let step = record::function_record(s, 0);
+    let Step::Next(next, _) = step else {
+        return Checked::Refused(step.refusal(), 0);
+    };
+    let id = instruction::u32_at(s, 4);
+    let slots = instruction::u32_at(s, 8) as usize;
+    let count = instruction::u32_at(s, 12) as usize;
+    check_sizes(s, id, slots, count, next)
+}

@@ -1,0 +1,2 @@
+-- What the exported check of a sheet answers.
+pub mod Exports
