@@ -1,0 +1,7 @@
+-- Laws of the search over the words of scratch.
+pub mod Marks
+pub mod SearchEnd
+pub mod FrameLaws
+pub mod TurnLaws
+pub mod ClearLaws
+pub mod RunLaws

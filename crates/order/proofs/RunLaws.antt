@@ -1,0 +1,194 @@
+-- The search turn by turn, with its charges: what is kept between turns, and what follows at each way out. Assumes nothing.
+use mathlib.Core.Path.{_≡_, refl, sym, ap, subst, _∙_}
+use mathlib.Core.List.{List, [], _∷_, reverse, reverse-reverse}
+use Prim.Native.Nat.{ℕ, suc, _+_, _-_, _*_, _≤_, _<_}
+use native.Mathlib.Omega.{arith}
+use lib.ListN.{length, getD, take, replicate, length-map, length-reverse}
+use lib.Seq.{length-take-le}
+use Rattle.dataflow.specs.Search.{Frame, Search, search, turns, searchFrom, allTurns}
+use Rattle.memory.specs.Cells.{Mem, cell, word}
+use Rattle.memory.specs.Scratch.{scratchWidths}
+use Rattle.memory.specs.declared.layout.Layout.{Layout}
+use Rattle.memory.proofs.CellLaws.{Sized}
+use Rattle.budget.specs.declared.FlowBudget.{FlowBudget}
+use Rattle.budget.specs.declared.Limits.{Limits}
+use Rattle.budget.specs.declared.Charged.{Charged}
+use Rattle.budget.specs.declared.Charged.the-variants as charging
+use Rattle.budget.specs.Budget.{charged, andCharged}
+use Rattle.budget.proofs.BudgetLaws.{charged-none, charged-cons}
+use Rattle.edges.specs.Edges.{Holds}
+use Rattle.order.specs.declared.Ordered.{Ordered}
+use Rattle.order.specs.declared.Ordered.the-variants.{Ok, Over}
+use Rattle.order.specs.Postorder.{searchedFrom, chargedIn, Searched}
+use Rattle.order.specs.Turns.{marked, stackOf, searchOf, turned, Good, Kept, Begun, Turned, Resumed}
+use Rattle.order.proofs.SearchEnd.{turnsLeft, search-step, search-stop, turns-step, turns-stop, turn-left, none-left, start-left, few-turns}
+use Rattle.order.proofs.FrameLaws.{frameAt, frames-none, stack-top, holds-kept, kept-trans, rest-below}
+use Rattle.order.proofs.TurnLaws.{wide, good-room}
+
+-- the charges of the whole search, one a turn
+abbrev pub turnCharges : (ℕ → List ℕ) → ℕ → List ℕ
+turnCharges next n = replicate (turns next (allTurns next n) (searchFrom next n 0)) 1
+
+-- ---- one graph
+module _ (next : ℕ → List ℕ) (y : Layout) (l : Limits) (b : FlowBudget) where
+  -- the search from block 0 with budget b stands at d after some turns, with `left` to go on with
+  pub record Way (d : Search) (left : FlowBudget) (turn : ℕ) : Type 0 where
+    pub fuel : turn + turnsLeft next d ≡ allTurns next (y .blocks)
+    pub whole : search next (turnsLeft next d) d ≡ searchedFrom next (y .blocks)
+    pub charges : charged l b (turnCharges next (y .blocks)) ≡ charged l left (replicate (turns next (turnsLeft next d) d) 1)
+
+  pub way-start : 0 < y .blocks → (d : Search) → d ≡ searchFrom next (y .blocks) 0 → Way d b 0
+  way-start h d e = subst (λ (x : Search). Way x b 0) (sym e) first
+    where
+      first : Way (searchFrom next (y .blocks) 0) b 0
+      first =
+          let s = start-left next (y .blocks) h in
+          record {
+            fuel = omega (arith, s);
+            whole = ap (λ (n : ℕ). search next n (searchFrom next (y .blocks) 0)) s;
+            charges = ap (λ (n : ℕ). charged l b (replicate (turns next n (searchFrom next (y .blocks) 0)) 1)) (sym s);
+          }
+
+  module _ (d : Search) (left : FlowBudget) (turn : ℕ) (w : Way d left turn) where
+    -- a turn with a frame on top
+    module _ (f : Frame) (fs : List Frame) (e : d .stack ≡ f ∷ fs)
+        (below : (i : ℕ) → i < length (f .rest) → getD (f .rest) i 0 < length (d .visited)) where
+      abbrev after : ℕ
+      after = turnsLeft next (turned next d)
+
+      one : turnsLeft next d ≡ suc after
+      one = turn-left next d f fs e below
+
+      spent : charged l b (turnCharges next (y .blocks))
+          ≡ andCharged (charged l left (1 ∷ [])) (λ c. charged l c (replicate (turns next after (turned next d)) 1))
+      spent =
+          w .charges
+          ∙ ap (λ (n : ℕ). charged l left (replicate n 1)) (ap (λ (n : ℕ). turns next n d) one ∙ turns-step next d f fs e after)
+          ∙ charged-cons l left 1 (replicate (turns next after (turned next d)) 1)
+
+      pub way-more : (left′ : FlowBudget) → charged l left (1 ∷ []) ≡ charging.Ok left′ → (d′ : Search) → d′ ≡ turned next d
+          → Way d′ left′ (turn + 1)
+      way-more left′ q d′ t = subst (λ (x : Search). Way x left′ (turn + 1)) (sym t) (record {
+        fuel = omega (arith, w .fuel, one);
+        whole = sym (search-step next d f fs e after) ∙ ap (λ (n : ℕ). search next n d) (sym one) ∙ w .whole;
+        charges = spent ∙ ap (λ (c : Charged). andCharged c (λ x. charged l x (replicate (turns next after (turned next d)) 1))) q;
+      })
+
+      pub way-over : (left′ : FlowBudget) → charged l left (1 ∷ []) ≡ charging.Over left′
+          → charged l b (turnCharges next (y .blocks)) ≡ charging.Over left′
+      way-over left′ q =
+          spent ∙ ap (λ (c : Charged). andCharged c (λ x. charged l x (replicate (turns next after (turned next d)) 1))) q
+
+    -- with an empty stack
+    module _ (e : d .stack ≡ []) where
+      pub way-whole : d ≡ searchedFrom next (y .blocks)
+      way-whole = sym (search-stop next d e (turnsLeft next d)) ∙ w .whole
+
+      pub way-met : charged l b (turnCharges next (y .blocks)) ≡ charging.Ok left
+      way-met =
+          w .charges ∙ ap (λ (n : ℕ). charged l left (replicate n 1)) (turns-stop next d e (turnsLeft next d)) ∙ charged-none l left
+
+-- ---- the words, for whatever graph they hold
+module _ (y : Layout) (l : Limits) (b : FlowBudget) (m₀ : Mem) where
+  pub record Going (m : Mem) (left : FlowBudget) (top len turn : ℕ) : Type 0 where
+    pub good : Good y m top len
+    pub others : Kept m₀ m
+    pub way : (next : ℕ → List ℕ) → Holds next y m₀ → Way next y l b (searchOf next m top len) left turn
+
+  pub going-start : 0 < y .blocks → Begun y m₀ → Going m₀ b 1 0 0
+  going-start h s = record {
+    good = s .good;
+    others = λ k a b c d. refl;
+    way = λ next holds. way-start next y l b h (searchOf next m₀ 1 0) (s .begins next);
+  }
+
+  -- charges that were met, then those of the turns
+  resumed : (next : ℕ → List ℕ) (b₀ : FlowBudget) → charged l b₀ ((3 * y .blocks) ∷ []) ≡ charging.Ok b
+      → charged l b₀ ((3 * y .blocks) ∷ turnCharges next (y .blocks)) ≡ charged l b (turnCharges next (y .blocks))
+  resumed next b₀ q =
+      charged-cons l b₀ (3 * y .blocks) (turnCharges next (y .blocks))
+      ∙ ap (λ (c : Charged). andCharged c (λ x. charged l x (turnCharges next (y .blocks)))) q
+
+  module _ (m : Mem) (z : Sized (scratchWidths y) m) (left : FlowBudget) (top len turn : ℕ) (g : Going m left top len turn) where
+    flags : (next : ℕ → List ℕ) → length (searchOf next m top len .visited) ≡ y .blocks
+    flags next = length-map (cell m 15) marked ∙ wide y m z 15 (omega arith) (omega arith)
+
+    module _ (h : 0 < top) where
+      below : (next : ℕ → List ℕ) → Holds next y m₀ → (i : ℕ) → i < length (frameAt next m (top - 1) .rest)
+          → getD (frameAt next m (top - 1) .rest) i 0 < length (searchOf next m top len .visited)
+      below next holds i lt =
+          rw (flags next) (rest-below holds (word m 13 (top - 1)) (word m 14 (top - 1)) (g .good .blocks (top - 1) (omega arith)) i lt)
+
+      pub going-more : (m′ : Mem) (left′ : FlowBudget) (top′ len′ : ℕ) → charged l left (1 ∷ []) ≡ charging.Ok left′
+          → Turned y m m′ top len top′ len′ → Going m′ left′ top′ len′ (turn + 1)
+      going-more m′ left′ top′ len′ q t = record {
+        good = t .good;
+        others = kept-trans m₀ m m′ (g .others) (t .others);
+        way = λ next holds.
+            way-more next y l b (searchOf next m top len) left turn (g .way next holds) (frameAt next m (top - 1)) (stackOf next m (top - 1))
+            (stack-top next m top h) (below next holds) left′ q (searchOf next m′ top′ len′)
+            (t .turns next (holds-kept m₀ m (g .others) holds));
+      }
+
+      pub going-over : (left′ : FlowBudget) → charged l left (1 ∷ []) ≡ charging.Over left′ → (r : Ordered) → r ≡ Over left′
+          → Resumed y l b m₀ m r
+      going-over left′ q r o b₀ e = record {
+        charges = λ next holds.
+            ap chargedIn o ∙ sym (resumed next b₀ e
+            ∙ way-over next y l b (searchOf next m top len) left turn (g .way next holds) (frameAt next m (top - 1)) (stackOf next m (top - 1))
+            (stack-top next m top h) (below next holds) left′ q);
+        order = λ next holds n c q. let a : _≡_ {A = ℕ} 0 1 = cc in absurd (omega arith);
+        len = λ next holds n c q. let a : _≡_ {A = ℕ} 0 1 = cc in absurd (omega arith);
+        others = g .others;
+      }
+
+    going-end : ((next : ℕ → List ℕ) → Holds next y m₀ → searchOf next m top len .stack ≡ []) → Resumed y l b m₀ m (Ok len left)
+    going-end stop b₀ e = record {
+      charges = λ next holds.
+          sym (resumed next b₀ e ∙ way-met next y l b (searchOf next m top len) left turn (g .way next holds) (stop next holds));
+      order = λ next holds n c q.
+          let same : len ≡ n = cc in
+          rw (← same) (sym (reverse-reverse (take len (cell m 10))) ∙ ap (λ (d : Search). reverse (d .finished)) (end next holds));
+      len = λ next holds n c q.
+          let same : len ≡ n = cc in
+          rw (← same) (sym (length-reverse (take len (cell m 10)) ∙ length-take-le len (cell m 10) fit)
+          ∙ ap (λ (d : Search). length (d .finished)) (end next holds));
+      others = g .others;
+    }
+      where
+        end : (next : ℕ → List ℕ) → Holds next y m₀ → searchOf next m top len ≡ searchedFrom next (y .blocks)
+        end next holds = way-whole next y l b (searchOf next m top len) left turn (g .way next holds) (stop next holds)
+
+        fit : len ≤ length (cell m 10)
+        fit = rw (wide y m z 10 (omega arith) (omega arith)) (omega (arith, good-room y m z (g .good)))
+
+    -- no frame is left
+    pub going-empty : top ≡ 0 → Resumed y l b m₀ m (Ok len left)
+    going-empty e = going-end (λ next holds. rw e (frames-none next _ _))
+
+    -- three turns a block were taken
+    pub going-full : 3 * y .blocks ≤ turn → Resumed y l b m₀ m (Ok len left)
+    going-full h =
+        going-end (λ next holds. none-left next (searchOf next m top len)
+        (omega (arith, g .way next holds .fuel, few-turns next (y .blocks) (holds .few))))
+
+-- ---- the whole: the first charge crosses the limit, or the search goes on from words that hold the same graph
+pub searched-over : (y : Layout) (l : Limits) (b : FlowBudget) (m : Mem) (left : FlowBudget)
+    → charged l b ((3 * y .blocks) ∷ []) ≡ charging.Over left → (r : Ordered) → r ≡ Over left → Searched y l b m m r
+searched-over y l b m left q r o = record {
+  charges = λ next holds.
+      ap chargedIn o ∙ sym (charged-cons l b (3 * y .blocks) (turnCharges next (y .blocks))
+      ∙ ap (λ (c : Charged). andCharged c (λ x. charged l x (turnCharges next (y .blocks)))) q);
+  order = λ next holds n c e. let a : _≡_ {A = ℕ} 0 1 = cc in absurd (omega arith);
+  len = λ next holds n c e. let a : _≡_ {A = ℕ} 0 1 = cc in absurd (omega arith);
+  others = λ k a b c d. refl;
+}
+
+pub searched-kept : (y : Layout) (l : Limits) (b : FlowBudget) (m₀ m m′ : Mem) (r : Ordered) → Kept m₀ m → Searched y l b m m′ r
+    → Searched y l b m₀ m′ r
+searched-kept y l b m₀ m m′ r k s = record {
+  charges = λ next holds. s .charges next (holds-kept m₀ m k holds);
+  order = λ next holds. s .order next (holds-kept m₀ m k holds);
+  len = λ next holds. s .len next (holds-kept m₀ m k holds);
+  others = kept-trans m₀ m m′ k (s .others);
+}

@@ -1,0 +1,3 @@
+-- The search that gives the postorder.
+pub mod Postorder
+pub mod Turns
