@@ -1,4 +1,5 @@
 -- `sheet::check` meets its contract. Assumes nothing.
+use mathlib.Core.Path.{sym, _∙_}
 use native.Mathlib.Omega.{arith}
 use denote.Ref.{now}
 use borrow.Author.Needs.{needs}
@@ -28,23 +29,27 @@ returns : tie.Need-returns
 returns c =
     let s = now (c .before .before .before .before .before .args .s) in
     let t = c .before .enum-told .given in
-    let h = halted (functionFault s 0) (endAt s 0) (kindAt s 0) (t .0 .0) (cc) in
+    let h = halted (functionFault s 0) (endAt s 0) (kindAt s 0) (t .0 .0) (sym (t .1) ∙ c .before .before .before .function-record .ensures) in
     checks s _ (rw (c .refusal .ensures, t .1) (function-bad s (t .0 .0) h))
 
 u32-at-requires : tie.Need-u32-at-requires
 u32-at-requires c κs =
-    let s = now (c .before .before .before .before .before .args .s) in
+    let a = c .before .before .before .before .before .args in
+    let s = now (a .s) in
     let g = c .before .step .given in
-    let w = went (functionFault s 0) (endAt s 0) (kindAt s 0) (g .0 .0) (g .0 .1 .0) (cc) in
+    let w = went (functionFault s 0) (endAt s 0) (kindAt s 0) (g .0 .0) (g .0 .1 .0)
+    (sym (g .1) ∙ c .before .before .before .function-record .ensures) in
     let p = function-passed s 0 (w .no-fault) in
     let l = lies s 0 (p .whole) in
     omega (arith, p .length-is, l .ordered, l .within)
 
 u32-at-requires-2 : tie.Need-u32-at-requires-2
 u32-at-requires-2 c κs =
-    let s = now (c .before .before .before .before .before .before .args .s) in
+    let a = c .before .before .before .before .before .before .args in
+    let s = now (a .s) in
     let g = c .before .before .step .given in
-    let w = went (functionFault s 0) (endAt s 0) (kindAt s 0) (g .0 .0) (g .0 .1 .0) (cc) in
+    let w = went (functionFault s 0) (endAt s 0) (kindAt s 0) (g .0 .0) (g .0 .1 .0)
+    (sym (g .1) ∙ c .before .before .before .before .function-record .ensures) in
     let p = function-passed s 0 (w .no-fault) in
     let l = lies s 0 (p .whole) in
     omega (arith, p .length-is, l .ordered, l .within)
@@ -54,9 +59,11 @@ cast-slots c = search needs
 
 u32-at-requires-3 : tie.Need-u32-at-requires-3
 u32-at-requires-3 c κs =
-    let s = now (c .before .before .before .before .before .before .before .args .s) in
+    let a = c .before .before .before .before .before .before .before .args in
+    let s = now (a .s) in
     let g = c .before .before .before .step .given in
-    let w = went (functionFault s 0) (endAt s 0) (kindAt s 0) (g .0 .0) (g .0 .1 .0) (cc) in
+    let w = went (functionFault s 0) (endAt s 0) (kindAt s 0) (g .0 .0) (g .0 .1 .0)
+    (sym (g .1) ∙ c .before .before .before .before .before .function-record .ensures) in
     let p = function-passed s 0 (w .no-fault) in
     let l = lies s 0 (p .whole) in
     omega (arith, p .length-is, l .ordered, l .within)
@@ -69,9 +76,11 @@ check-sizes-requires c κs = search needs
 
 returns-2 : tie.Need-returns-2
 returns-2 c =
-    let s = now (c .before .before .before .before .before .before .before .before .before .args .s) in
+    let a = c .before .before .before .before .before .before .before .before .before .args in
+    let s = now (a .s) in
     let g = c .before .before .before .before .before .step .given in
-    let w = went (functionFault s 0) (endAt s 0) (kindAt s 0) (g .0 .0) (g .0 .1 .0) (cc) in
+    let w = went (functionFault s 0) (endAt s 0) (kindAt s 0) (g .0 .0) (g .0 .1 .0)
+    (sym (g .1) ∙ c .before .before .before .before .before .before .before .function-record .ensures) in
     let f = function-due s (w .no-fault) in
     let i = w .is-end in
     checks s (c .check-sizes .result) (cc)

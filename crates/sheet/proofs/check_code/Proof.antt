@@ -1,4 +1,5 @@
 -- `sheet::check_code` meets its contract. Assumes nothing.
+use mathlib.Core.Path.{sym, _∙_}
 use denote.Ref.{now}
 use borrow.Author.Needs.{needs}
 use Rattle.records.specs.Records.{instructionFault}
@@ -29,7 +30,7 @@ returns c =
     let t = c .before .enum-told .given in
     let f = firstOf (λ y. instructionFault s (x .slots) (x .count) y) s (x .«code_at») (x .count) in
     let h = one-halted f (offsetOf s (x .«code_at») (x .count)) (lastKind s (x .«code_at») (x .count) 0) (awaitsFrom s (x .«code_at») (x .count))
-    (t .0 .0) (cc) in
+    (t .0 .0) (sym (t .1) ∙ c .before .before .before .walk-code .ensures) in
     rw (c .refusal .ensures, t .1, h)
 
 check-end-requires : tie.Need-check-end-requires
@@ -44,7 +45,7 @@ returns-2 c =
     let g = c .before .before .code .given in
     let f = firstOf (λ y. instructionFault s (x .slots) (x .count) y) s (x .«code_at») (x .count) in
     let w = all-went f (offsetOf s (x .«code_at») (x .count)) (lastKind s (x .«code_at») (x .count) 0) (awaitsFrom s (x .«code_at») (x .count))
-    (g .0 .0) (g .0 .1 .0) (g .0 .1 .1 .0) (cc) in
+    (g .0 .0) (g .0 .1 .0) (g .0 .1 .1 .0) (sym (g .1) ∙ c .before .before .before .before .walk-code .ensures) in
     rw (w .no-fault, ← w .is-end, ← w .is-last, ← w .is-awaits) (c .check-end .ensures)
 
 pub check-code-spec : {M : Type 1} → statement M

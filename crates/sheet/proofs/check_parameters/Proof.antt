@@ -1,4 +1,5 @@
 -- `sheet::check_parameters` meets its contract. Assumes nothing.
+use mathlib.Core.Path.{sym, _∙_}
 use native.Mathlib.Omega.{arith}
 use denote.Ref.{now}
 use borrow.Author.Needs.{needs}
@@ -29,7 +30,8 @@ returns c =
     let a = c .before .before .before .before .before .args in
     let s = now (a .s) in
     let t = c .before .enum-told .given in
-    let h = halted (parametersFault s (a .slots) (a .at)) (endAt s (a .at)) (kindAt s (a .at)) (t .0 .0) (cc) in
+    let h = halted (parametersFault s (a .slots) (a .at)) (endAt s (a .at)) (kindAt s (a .at)) (t .0 .0)
+    (sym (t .1) ∙ c .before .before .before .parameter-record .ensures) in
     rw (c .refusal .ensures, t .1, h)
 
 add-t9 : tie.Need-add-t9
@@ -37,7 +39,8 @@ add-t9 c =
     let a = c .before .before .before .before .before .args in
     let s = now (a .s) in
     let g = c .before .step .given in
-    let w = went (parametersFault s (a .slots) (a .at)) (endAt s (a .at)) (kindAt s (a .at)) (g .0 .0) (g .0 .1 .0) (cc) in
+    let w = went (parametersFault s (a .slots) (a .at)) (endAt s (a .at)) (kindAt s (a .at)) (g .0 .0) (g .0 .1 .0)
+    (sym (g .1) ∙ c .before .before .before .parameter-record .ensures) in
     let l = lies s (a .at) (parameters-passed s (a .slots) (a .at) (w .no-fault) .whole) in
     omega (arith, l .ordered, l .within)
 
@@ -46,7 +49,8 @@ add-t10 c =
     let a = c .before .before .before .before .before .args in
     let s = now (a .s) in
     let g = c .before .step .given in
-    let w = went (parametersFault s (a .slots) (a .at)) (endAt s (a .at)) (kindAt s (a .at)) (g .0 .0) (g .0 .1 .0) (cc) in
+    let w = went (parametersFault s (a .slots) (a .at)) (endAt s (a .at)) (kindAt s (a .at)) (g .0 .0) (g .0 .1 .0)
+    (sym (g .1) ∙ c .before .before .before .parameter-record .ensures) in
     let l = lies s (a .at) (parameters-passed s (a .slots) (a .at) (w .no-fault) .whole) in
     omega (arith, l .ordered, l .within)
 
@@ -55,7 +59,8 @@ sub-t11 c =
     let a = c .before .before .before .before .before .args in
     let s = now (a .s) in
     let g = c .before .step .given in
-    let w = went (parametersFault s (a .slots) (a .at)) (endAt s (a .at)) (kindAt s (a .at)) (g .0 .0) (g .0 .1 .0) (cc) in
+    let w = went (parametersFault s (a .slots) (a .at)) (endAt s (a .at)) (kindAt s (a .at)) (g .0 .0) (g .0 .1 .0)
+    (sym (g .1) ∙ c .before .before .before .parameter-record .ensures) in
     let l = lies s (a .at) (parameters-passed s (a .slots) (a .at) (w .no-fault) .whole) in
     omega (arith, l .ordered, w .is-end)
 
@@ -68,7 +73,8 @@ returns-2 c =
     let a = c .before .before .before .before .before .before .args in
     let s = now (a .s) in
     let g = c .before .before .step .given in
-    let w = went (parametersFault s (a .slots) (a .at)) (endAt s (a .at)) (kindAt s (a .at)) (g .0 .0) (g .0 .1 .0) (cc) in
+    let w = went (parametersFault s (a .slots) (a .at)) (endAt s (a .at)) (kindAt s (a .at)) (g .0 .0) (g .0 .1 .0)
+    (sym (g .1) ∙ c .before .before .before .before .parameter-record .ensures) in
     rw (w .no-fault, ← w .is-end) (c .check-slots .ensures)
 
 pub check-parameters-spec : {M : Type 1} → statement M

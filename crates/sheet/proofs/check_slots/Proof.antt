@@ -1,4 +1,5 @@
 -- `sheet::check_slots` meets its contract. Assumes nothing.
+use mathlib.Core.Path.{sym, _∙_}
 use denote.Ref.{now}
 use borrow.Author.Needs.{needs}
 use Rattle.records.specs.Records.{slotFault}
@@ -28,7 +29,7 @@ returns c =
     let s = now (a .s) in
     let t = c .before .enum-told .given in
     let f = firstOf (λ y. slotFault s y) s (x .«slots_at») (x .slots) in
-    let h = halted f (offsetOf s (x .«slots_at») (x .slots)) 258 (t .0 .0) (cc) in
+    let h = halted f (offsetOf s (x .«slots_at») (x .slots)) 258 (t .0 .0) (sym (t .1) ∙ c .before .before .before .walk-slots .ensures) in
     rw (c .refusal .ensures, t .1, h)
 
 check-code-requires : tie.Need-check-code-requires
@@ -42,7 +43,8 @@ returns-2 c =
     let s = now (a .s) in
     let g = c .before .before .step .given in
     let f = firstOf (λ y. slotFault s y) s (x .«slots_at») (x .slots) in
-    let w = went f (offsetOf s (x .«slots_at») (x .slots)) 258 (g .0 .0) (g .0 .1 .0) (cc) in
+    let w = went f (offsetOf s (x .«slots_at») (x .slots)) 258 (g .0 .0) (g .0 .1 .0)
+    (sym (g .1) ∙ c .before .before .before .before .walk-slots .ensures) in
     rw (w .no-fault, ← w .is-end) (c .check-code .ensures)
 
 pub check-slots-spec : {M : Type 1} → statement M

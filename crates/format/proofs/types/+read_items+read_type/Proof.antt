@@ -83,7 +83,8 @@ read-items-returns-2 : (t : ℕ) → read-items-lts.Need-returns-2 (
 ) (read-items-at t) read-items.Post
 read-items-returns-2 t c =
     let a = c .before .before .before .before .before .args in
-    stop-item (λ x. typeAt (a .depth) (now (a .s)) (a .end) x) (a .at) (a .host) (a .left) (c .before .before .before .if1 .left) (cc)
+    stop-item (λ x. typeAt (a .depth) (now (a .s)) (a .end) x) (a .at) (a .host) (a .left) (c .before .before .before .if1 .left)
+    (sym (c .enum-told .given .1) ∙ c .before .before .read-type .ensures)
 
 read-items-sub-read-items : (t : ℕ) → read-items-lts.Need-sub-read-items (
   read-type-below t,
@@ -114,7 +115,7 @@ read-items-returns-3 t c =
     let k = c .before .before .next .given in
     c .read-items .ensures
     ∙ sym (next-item (λ x. typeAt (a .depth) (now (a .s)) (a .end) x) (a .at) (a .host) (a .left) (k .0 .0) (k .0 .1 .0)
-    (c .before .before .before .before .before .if1 .left) (cc))
+    (c .before .before .before .before .before .if1 .left) (sym (k .1) ∙ c .before .before .before .before .read-type .ensures))
 
 read-type-returns :
     (t : ℕ) →

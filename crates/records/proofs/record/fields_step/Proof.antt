@@ -15,11 +15,13 @@ returns-2 c =
 
 returns-3 : tie.Need-returns-3
 returns-3 c =
-    let a = c .before .before .before .args in fields-target (a .f) (a .end) (a .kind) (c .before .before .if1 .left) (c .before .if2 .left) (c .if3 .taken)
+    let a = c .before .before .before .args in fields-target (a .f) (a .end) (a .kind) (c .before .before .if1 .left) (c .before .if2 .left)
+    (c .if3 .taken)
 
 returns-4 : tie.Need-returns-4
 returns-4 c =
-    let a = c .before .before .before .args in fields-due (a .f) (a .end) (a .kind) (c .before .before .if1 .left) (c .before .if2 .left) (c .if3 .left)
+    let a = c .before .before .before .args in fields-due (a .f) (a .end) (a .kind) (c .before .before .if1 .left) (c .before .if2 .left)
+    (c .if3 .left)
 
 pub fields-step-spec : {M : Type 1} → statement M
 fields-step-spec = tie.close (tie.spec returns returns-2 returns-3 returns-4)

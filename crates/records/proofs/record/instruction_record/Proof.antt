@@ -32,21 +32,24 @@ enum-told c = search needs
 returns : tie.Need-returns
 returns c =
     let a = c .before .before .before .before .args in
-    instruction-short (now (a .s)) (a .at) (endAt (now (a .s)) (a .at)) (kindAt (now (a .s)) (a .at)) (found-short (now (a .s)) (a .at) (cc))
+    instruction-short (now (a .s)) (a .at) (endAt (now (a .s)) (a .at)) (kindAt (now (a .s)) (a .at))
+    (found-short (now (a .s)) (a .at) (sym (c .enum-told .given .1) ∙ c .before .before .head-at .ensures))
     (a .slots) (a .count)
 
 returns-2 : tie.Need-returns-2
 returns-2 c =
     let a = c .before .before .before .before .before .before .args in
     let k = c .before .before .kind .given .0 in
-    let i = inside (now (a .s)) (a .at) (k .0) (k .1 .0) (k .1 .1 .0) (cc) in
+    let i = inside (now (a .s)) (a .at) (k .0) (k .1 .0) (k .1 .1 .0)
+    (sym (c .before .before .kind .given .1) ∙ c .before .before .before .before .head-at .ensures) in
     instruction-low (now (a .s)) (a .at) (k .0) (k .1 .0) (k .1 .1 .0) i (a .slots) (a .count) (c .if1 .taken)
 
 returns-3 : tie.Need-returns-3
 returns-3 c =
     let a = c .before .before .before .before .before .before .before .args in
     let k = c .before .before .before .kind .given .0 in
-    let i = inside (now (a .s)) (a .at) (k .0) (k .1 .0) (k .1 .1 .0) (cc) in
+    let i = inside (now (a .s)) (a .at) (k .0) (k .1 .0) (k .1 .1 .0)
+    (sym (c .before .before .before .kind .given .1) ∙ c .before .before .before .before .before .head-at .ensures) in
     instruction-high (now (a .s)) (a .at) (k .0) (k .1 .0) (k .1 .1 .0) i (a .slots) (a .count) (c .if2 .taken)
 
 of-requires : tie.Need-of-requires
@@ -56,14 +59,16 @@ sub-len : tie.Need-sub-len
 sub-len c =
     let a = c .before .before .before .before .before .before .before .before .args in
     let k = c .before .before .before .before .kind .given .0 in
-    let i = inside (now (a .s)) (a .at) (k .0) (k .1 .0) (k .1 .1 .0) (cc) in
+    let i = inside (now (a .s)) (a .at) (k .0) (k .1 .0) (k .1 .1 .0)
+    (sym (c .before .before .before .before .kind .given .1) ∙ c .before .before .before .before .before .before .head-at .ensures) in
     omega (arith, i .ordered)
 
 returns-4 : tie.Need-returns-4
 returns-4 c =
     let a = c .before .before .before .before .before .before .before .before .before .args in
     let k = c .before .before .before .before .before .kind .given .0 in
-    let i = inside (now (a .s)) (a .at) (k .0) (k .1 .0) (k .1 .1 .0) (cc) in
+    let i = inside (now (a .s)) (a .at) (k .0) (k .1 .0) (k .1 .1 .0)
+    (sym (c .before .before .before .before .before .kind .given .1) ∙ c .before .before .before .before .before .before .before .head-at .ensures) in
     instruction-cut (now (a .s)) (a .at) (k .0) (k .1 .0) (k .1 .1 .0) i (a .slots) (a .count) (omega arith) (omega arith) (c .if3 .taken)
 
 fits-requires : tie.Need-fits-requires
@@ -73,7 +78,9 @@ field-faults-requires : tie.Need-field-faults-requires
 field-faults-requires c κs =
     let a = c .before .before .before .before .before .before .before .before .before .before .before .args in
     let k = c .before .before .before .before .before .before .before .kind .given .0 in
-    let i = inside (now (a .s)) (a .at) (k .0) (k .1 .0) (k .1 .1 .0) (cc) in
+    let i = inside (now (a .s)) (a .at) (k .0) (k .1 .0) (k .1 .1 .0)
+    (sym (c .before .before .before .before .before .before .before .kind .given .1)
+    ∙ c .before .before .before .before .before .before .before .before .before .head-at .ensures) in
     (c .before .before .before .of .ensures .1, omega (arith, i .ordered, i .within))
 
 fields-step-requires : tie.Need-fields-step-requires
@@ -83,7 +90,9 @@ returns-5 : tie.Need-returns-5
 returns-5 c =
     let a = c .before .before .before .before .before .before .before .before .before .before .before .before .before .args in
     let k = c .before .before .before .before .before .before .before .before .before .kind .given .0 in
-    let i = inside (now (a .s)) (a .at) (k .0) (k .1 .0) (k .1 .1 .0) (cc) in
+    let i = inside (now (a .s)) (a .at) (k .0) (k .1 .0) (k .1 .1 .0)
+    (sym (c .before .before .before .before .before .before .before .before .before .kind .given .1)
+    ∙ c .before .before .before .before .before .before .before .before .before .before .before .head-at .ensures) in
     let f = c .before .field-faults .result in
     let p = c .before .before .before .before .before .of .ensures .0 in
     let t = subst (λ (x : ℕ). FaultsIn x (numbersAt (now (a .s)) (k .1 .0) ((k .1 .1 .0 - k .1 .0) / 4)) (a .slots) (a .count) f) p
@@ -97,7 +106,9 @@ returns-6 : tie.Need-returns-6
 returns-6 c =
     let a = c .before .before .before .before .before .before .before .before .before .before .before .args in
     let k = c .before .before .before .before .before .before .before .kind .given .0 in
-    let i = inside (now (a .s)) (a .at) (k .0) (k .1 .0) (k .1 .1 .0) (cc) in
+    let i = inside (now (a .s)) (a .at) (k .0) (k .1 .0) (k .1 .1 .0)
+    (sym (c .before .before .before .before .before .before .before .kind .given .1)
+    ∙ c .before .before .before .before .before .before .before .before .before .head-at .ensures) in
     let p = c .before .before .before .of .ensures .0 in
     instruction-unfit (now (a .s)) (a .at) (k .0) (k .1 .0) (k .1 .1 .0) i (a .slots) (a .count) (omega arith) (omega arith)
     (c .before .before .if3 .left)

@@ -20,34 +20,39 @@ enum-told c = search needs
 returns : tie.Need-returns
 returns c =
     let a = c .before .before .before .before .args in
-    slot-short (now (a .s)) (a .at) (endAt (now (a .s)) (a .at)) (kindAt (now (a .s)) (a .at)) (found-short (now (a .s)) (a .at) (cc))
+    slot-short (now (a .s)) (a .at) (endAt (now (a .s)) (a .at)) (kindAt (now (a .s)) (a .at))
+    (found-short (now (a .s)) (a .at) (sym (c .enum-told .given .1) ∙ c .before .before .head-at .ensures))
 
 returns-2 : tie.Need-returns-2
 returns-2 c =
     let a = c .before .before .before .before .before .before .args in
     let k = c .before .before .kind .given .0 in
-    let i = inside (now (a .s)) (a .at) (k .0) (k .1 .0) (k .1 .1 .0) (cc) in
+    let i = inside (now (a .s)) (a .at) (k .0) (k .1 .0) (k .1 .1 .0)
+    (sym (c .before .before .kind .given .1) ∙ c .before .before .before .before .head-at .ensures) in
     slot-kind (now (a .s)) (a .at) (k .0) (k .1 .0) (k .1 .1 .0) i (c .if1 .taken)
 
 bad-slot-requires : tie.Need-bad-slot-requires
 bad-slot-requires c κs =
     let a = c .before .before .before .before .before .before .args in
     let k = c .before .before .kind .given .0 in
-    let i = inside (now (a .s)) (a .at) (k .0) (k .1 .0) (k .1 .1 .0) (cc) in
+    let i = inside (now (a .s)) (a .at) (k .0) (k .1 .0) (k .1 .1 .0)
+    (sym (c .before .before .kind .given .1) ∙ c .before .before .before .before .head-at .ensures) in
     i .within
 
 returns-3 : tie.Need-returns-3
 returns-3 c =
     let a = c .before .before .before .before .before .before .before .before .args in
     let k = c .before .before .before .before .kind .given .0 in
-    let i = inside (now (a .s)) (a .at) (k .0) (k .1 .0) (k .1 .1 .0) (cc) in
+    let i = inside (now (a .s)) (a .at) (k .0) (k .1 .0) (k .1 .1 .0)
+    (sym (c .before .before .before .before .kind .given .1) ∙ c .before .before .before .before .before .before .head-at .ensures) in
     slot-body (now (a .s)) (a .at) (k .0) (k .1 .0) (k .1 .1 .0) i (c .before .before .if1 .left) (sym (c .if2 .taken) ∙ c .before .bad-slot .ensures)
 
 returns-4 : tie.Need-returns-4
 returns-4 c =
     let a = c .before .before .before .before .before .before .before .before .args in
     let k = c .before .before .before .before .kind .given .0 in
-    let i = inside (now (a .s)) (a .at) (k .0) (k .1 .0) (k .1 .1 .0) (cc) in
+    let i = inside (now (a .s)) (a .at) (k .0) (k .1 .0) (k .1 .1 .0)
+    (sym (c .before .before .before .before .kind .given .1) ∙ c .before .before .before .before .before .before .head-at .ensures) in
     slot-due (now (a .s)) (a .at) (k .0) (k .1 .0) (k .1 .1 .0) i (c .before .before .if1 .left) (sym (c .if2 .left) ∙ c .before .bad-slot .ensures)
 
 pub slot-record-spec : {M : Type 1} → statement M

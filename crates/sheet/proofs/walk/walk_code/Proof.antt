@@ -1,5 +1,5 @@
 -- `sheet::walk::walk_code` meets its contract. Assumes nothing.
-use mathlib.Core.Path.{ap, _∙_}
+use mathlib.Core.Path.{ap, _∙_, sym}
 use Prim.Native.Nat.{_-_}
 use native.Mathlib.Omega.{arith}
 use denote.Ref.{now}
@@ -58,7 +58,8 @@ returns c =
     let l = c .before .before .before .before .before .loop in
     let t = c .before .enum-told .given in
     let s = now (a .s) in
-    let h = halted (instructionFault s (a .slots) (a .count) (l .at)) (endAt s (l .at)) (kindAt s (l .at)) (t .0 .0) (cc) in
+    let h = halted (instructionFault s (a .slots) (a .count) (l .at)) (endAt s (l .at)) (kindAt s (l .at)) (t .0 .0)
+    (sym (t .1) ∙ c .before .before .before .instruction-record .ensures) in
     rw (
       c .refusal .ensures,
       t .1,
@@ -86,7 +87,8 @@ loop-again c =
     let l = c .before .before .before .before .before .before .before .loop in
     let g = c .before .before .before .step .given in
     let s = now (a .s) in
-    let w = went (instructionFault s (a .slots) (a .count) (l .at)) (endAt s (l .at)) (kindAt s (l .at)) (g .0 .0) (g .0 .1 .0) (cc) in (
+    let w = went (instructionFault s (a .slots) (a .count) (l .at)) (endAt s (l .at)) (kindAt s (l .at)) (g .0 .0) (g .0 .1 .0)
+    (sym (g .1) ∙ c .before .before .before .before .before .instruction-record .ensures) in (
       run-more (λ x. instructionFault s (a .slots) (a .count) x) s (a .count) (a .first) (l .at) (l .i) (l .inv .0) (g .0 .0) (omega arith)
           (w .no-fault) (w .is-end),
       counted-more s (a .count) (a .first) (l .at) (l .i) (l .last) (l .awaits) (l .inv .1) (g .0 .0) (g .0 .1 .0) (c .one-if .result) (omega arith)

@@ -1,4 +1,5 @@
 -- `sheet::walk::walk_slots` meets its contract. Assumes nothing.
+use mathlib.Core.Path.{sym, _∙_}
 use Prim.Native.Nat.{_-_}
 use native.Mathlib.Omega.{arith}
 use denote.Ref.{now}
@@ -36,7 +37,7 @@ returns c =
     let l = c .before .before .before .before .loop in
     let t = c .enum-told .given in
     let s = now (a .s) in
-    let h = halted (slotFault s (l .at)) (endAt s (l .at)) (kindAt s (l .at)) (t .0 .0) (cc) in
+    let h = halted (slotFault s (l .at)) (endAt s (l .at)) (kindAt s (l .at)) (t .0 .0) (sym (t .1) ∙ c .before .before .slot-record .ensures) in
     rw (t .1, run-stop (λ x. slotFault s x) s (a .slots) (a .first) (l .at) (l .i) (l .inv) (t .0 .0) (omega arith) h)
 
 add-i : tie.Need-add-i Inv-loop μ-loop
@@ -51,7 +52,8 @@ loop-again c =
     let l = c .before .before .before .before .before .loop in
     let g = c .before .step .given in
     let s = now (a .s) in
-    let w = went (slotFault s (l .at)) (endAt s (l .at)) (kindAt s (l .at)) (g .0 .0) (g .0 .1 .0) (cc) in
+    let w = went (slotFault s (l .at)) (endAt s (l .at)) (kindAt s (l .at)) (g .0 .0) (g .0 .1 .0)
+    (sym (g .1) ∙ c .before .before .before .slot-record .ensures) in
     run-more (λ x. slotFault s x) s (a .slots) (a .first) (l .at) (l .i) (l .inv) (g .0 .0) (omega arith) (w .no-fault) (w .is-end)
 
 returns-2 : tie.Need-returns-2 Inv-loop μ-loop
