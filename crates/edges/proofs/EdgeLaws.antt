@@ -1,16 +1,15 @@
--- What the words of a graph hold stays where its two cells stay, and clearing a cell word by word. Assumes nothing.
+-- What the words of a graph hold stays where its two cells stay, and what a cleared cell holds. Assumes nothing.
 use mathlib.Core.Path.{_≡_, refl, ap, _∙_}
 use mathlib.Core.Logic.{_≢_}
 use mathlib.Core.List.{List}
 use Prim.Native.Nat.{ℕ, _+_, _*_, _≤_, _<_}
 use native.Mathlib.Omega.{arith}
-use native.Mathlib.Decide.{ℕ-discrete}
-use lib.ListN.{getD, set}
-use Rattle.memory.specs.Cells.{Mem, cell, word, store}
-use Rattle.memory.specs.Scratch.{scratchWidths, Place}
+use lib.ListN.{getD, set, replicate, getD-replicate}
+use Rattle.memory.specs.Cells.{Mem, cell, word, store, storeCell}
+use Rattle.memory.specs.Scratch.{scratchWidths}
 use Rattle.memory.specs.declared.layout.Layout.{Layout}
-use Rattle.memory.proofs.CellLaws.{Sized, word-store-other, cell-store-other}
-use Rattle.memory.proofs.ScratchLaws.{word-put}
+use Rattle.memory.proofs.CellLaws.{Sized, word-cell-same, cell-store-other}
+use Rattle.memory.proofs.ScratchLaws.{sized-among, width-blocks}
 use Rattle.edges.specs.Edges.{Holds, Cleared, successorCountCell, successorCell}
 
 -- words of cells that are equal are equal
@@ -31,25 +30,12 @@ holds-kept {m = m} {m′ = m′} e f h = record {
   below = h .below;
 }
 
--- ---- a cell that is cleared: its words below b are 0
-pub record Clearing (y : Layout) (k b : ℕ) (m m′ : Mem) : Type 0 where
-  pub zeros : (i : ℕ) → i < b → word m′ k i ≡ 0
-  pub others : (j : ℕ) → j ≢ k → cell m′ j ≡ cell m j
+-- ---- a cell that is cleared
 
-module _ {y : Layout} {k : ℕ} where
-  pub clear-none : {m : Mem} → Clearing y k 0 m m
-  clear-none = record { zeros = λ i lt. absurd (omega arith); others = λ j ne. refl }
-
-  pub clear-more : {b : ℕ} {m m′ m″ : Mem} → Sized (scratchWidths y) m′ → Place y k b → m″ ≡ store m′ k b 0 → Clearing y k b m m′
-      → Clearing y k (b + 1) m m″
-  clear-more {b} {m} {m′} z p e c = rw e (record {
-    zeros = λ i lt. go i lt (ℕ-discrete i b);
-    others = λ j ne. cell-kept m′ k b 0 j ne ∙ c .others j ne;
-  })
-    where
-      go : (i : ℕ) → i < b + 1 → Dec (i ≡ b) → word (store m′ k b 0) k i ≡ 0
-      go i lt (yes q) = ap (word (store m′ k b 0) k) q ∙ word-put y z p 0
-      go i lt (no q) = word-store-other m′ k b 0 k i (λ _. q) ∙ c .zeros i (omega arith)
-
-  pub clear-end : {b : ℕ} {m m′ : Mem} → y .blocks ≤ b → Clearing y k b m m′ → Cleared y k m m′
-  clear-end h c = record { zeros = λ i lt. c .zeros i (omega arith); others = c .others }
+pub cleared-cell : (y : Layout) (k : ℕ) (m m′ : Mem) → Sized (scratchWidths y) m → 4 ≤ k → k < 16
+    → m′ ≡ storeCell m k (replicate (getD (scratchWidths y) k 0) 0) → Cleared y k m m′
+cleared-cell y k m m′ z a b e = record {
+  zeros = λ i lt. ap (λ (w : Mem). word w k i) e ∙ word-cell-same m k _ i (sized-among y z (omega arith))
+      ∙ getD-replicate (getD (scratchWidths y) k 0) i 0 0 (omega (arith, width-blocks y k a b));
+  others = λ j ne. ap (λ (w : Mem). cell w j) e ∙ cell-store-other m k _ j ne;
+}

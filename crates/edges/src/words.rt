@@ -10,10 +10,5 @@ pub fn clear(s: &mut [u64], y: Layout, k: usize)
     requires { ⌜ Room y (length (now s)) × (4 ≤ k) × (k < 16) ⌝ }
     ensures { λ _. ⌜ Cleared y k (scratch y (now (s .entry))) (scratch y (now (s .exit))) ⌝ }
 {
-    let n = y.blocks;
-    let mut b = 0;
-    while b < n {
-        memory::scratch::put(s, y, k, b, 0);
-        b += 1;
-    }
+    memory::scratch::clear(s, y, k);
 }

@@ -3,5 +3,4 @@ pub mod Marks
 pub mod SearchEnd
 pub mod FrameLaws
 pub mod TurnLaws
-pub mod ClearLaws
 pub mod RunLaws

@@ -65,12 +65,7 @@ fn clear_visited(s: &mut [u64], y: Layout)
     requires { ⌜ Room y (length (now s)) ⌝ }
     ensures { λ _. ⌜ scratch y (now (s .exit)) ≡ storeCell (scratch y (now (s .entry))) visitedCell (replicate (y .blocks) 0) ⌝ }
 {
-    let n = y.blocks;
-    let mut b = 0;
-    while b < n {
-        memory::scratch::put(s, y, layout::VISITED, b, 0);
-        b += 1;
-    }
+    memory::scratch::clear(s, y, layout::VISITED);
 }
 
 // Turns until the stack is empty: one for each block and one for each edge, so at most three a block.
