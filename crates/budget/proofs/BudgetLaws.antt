@@ -4,9 +4,9 @@ use mathlib.Core.Bool.{Bool, true, false}
 use mathlib.Core.List.{List, [], _∷_, _++_}
 use Prim.Native.Nat.{ℕ, zero, suc, _+_, _*_, _-_, _≤_, _<_}
 use native.Mathlib.Omega.{arith}
-use native.Mathlib.Nat.{mul-le-mul, zero-add, suc-add}
+use native.Mathlib.Nat.{mul-le-mul}
 use lib.Dec.{leb}
-use lib.ListN.{replicate}
+use lib.ListN.{replicate, replicate-append-replicate}
 use borrow.Author.Tests.{le-leb, lt-leb}
 use Rattle.dataflow.specs.Lists.{pick}
 use Rattle.dataflow.specs.Charges.{Spent, within, crossed, saturatingSum, spend, andThen}
@@ -69,21 +69,33 @@ state-small blocks words h k =
     mul-le-mul h g
 
 -- ---- a charge of 1 again and again
+module _ (l : Limits) (b : FlowBudget) where
+  -- so many were met: the rest are charged to what is left
+  pub ones-on : (k n : ℕ) {b′ : FlowBudget} → charged l b (replicate k 1) ≡ Ok b′ → k ≤ n
+      → charged l b (replicate n 1) ≡ charged l b′ (replicate (n - k) 1)
+  ones-on k n {b′} e h =
+      let q : n ≡ k + (n - k) = omega arith in
+      ap (λ (i : ℕ). charged l b (replicate i 1)) q
+      ∙ ap (charged l b) (sym (replicate-append-replicate k (n - k) 1))
+      ∙ charged-append l b (replicate k 1) (replicate (n - k) 1)
+      ∙ ap (λ (c : Charged). andCharged c (λ x. charged l x (replicate (n - k) 1))) e
 
-replicate-append : (j k v : ℕ) → replicate (j + k) v ≡ replicate j v ++ replicate k v
-replicate-append zero k v = ap (λ (n : ℕ). replicate n v) (zero-add k)
-replicate-append (suc j) k v = ap (λ (n : ℕ). replicate n v) (suc-add j k) ∙ ap (λ (l : List ℕ). v ∷ l) (replicate-append j k v)
+  -- so many crossed the limit: so do more
+  pub ones-over : (k n : ℕ) {b′ : FlowBudget} → charged l b (replicate k 1) ≡ Over b′ → k ≤ n → charged l b (replicate n 1) ≡ Over b′
+  ones-over k n {b′} e h =
+      let q : n ≡ k + (n - k) = omega arith in
+      ap (λ (i : ℕ). charged l b (replicate i 1)) q
+      ∙ ap (charged l b) (sym (replicate-append-replicate k (n - k) 1))
+      ∙ charged-append l b (replicate k 1) (replicate (n - k) 1)
+      ∙ ap (λ (c : Charged). andCharged c (λ x. charged l x (replicate (n - k) 1))) e
 
-module _ (l : Limits) (b b′ : FlowBudget) (k : ℕ) (e : charged l b (replicate k 1) ≡ Ok b′) where
   -- one more
-  pub ones-more : charged l b (replicate (k + 1) 1) ≡ charged l b′ (1 ∷ [])
-  ones-more =
-      ap (charged l b) (replicate-append k 1 1) ∙ charged-append l b (replicate k 1) (1 ∷ []) ∙ ap (λ (r : Charged). andCharged r (λ x. charged l x (1 ∷ []))) e
+  pub ones-more : (k : ℕ) {b′ : FlowBudget} → charged l b (replicate k 1) ≡ Ok b′ → charged l b (replicate (k + 1) 1) ≡ charged l b′ (1 ∷ [])
+  ones-more k {b′} e =
+      let q : k + 1 - k ≡ 1 = omega arith in
+      ones-on k (k + 1) e (omega arith) ∙ ap (λ (i : ℕ). charged l b′ (replicate i 1)) q
 
-  -- the one that crosses the limit decides, however many were to follow
-  pub ones-over : (n : ℕ) (x : FlowBudget) → k < n → charged l b′ (1 ∷ []) ≡ Over x → charged l b (replicate n 1) ≡ Over x
-  ones-over n x h f =
-      let q : n ≡ k + 1 + (n - (k + 1)) = omega arith in
-      ap (λ (i : ℕ). charged l b (replicate i 1)) q ∙ ap (charged l b) (replicate-append (k + 1) (n - (k + 1)) 1)
-      ∙ charged-append l b (replicate (k + 1) 1) (replicate (n - (k + 1)) 1)
-      ∙ ap (λ (r : Charged). andCharged r (λ x. charged l x (replicate (n - (k + 1)) 1))) (ones-more ∙ f)
+-- so many were met and the next one crosses the limit: that one decides, however many were to follow
+pub ones-crossed : (l : Limits) (b : FlowBudget) (k n : ℕ) {left x : FlowBudget} → charged l b (replicate k 1) ≡ Ok left → k < n
+    → charged l left (1 ∷ []) ≡ Over x → charged l b (replicate n 1) ≡ Over x
+ones-crossed l b k n {left} {x} e h f = ones-on l b k n e (omega arith) ∙ ones-over l left 1 (n - k) f (omega arith)

@@ -15,11 +15,12 @@ use lib.Seq.{drop-cons}
 use Rattle.dataflow.specs.Lists.{pick, tabulate}
 use Rattle.dataflow.specs.Results.{edgesTo, predecessorsFrom}
 use Rattle.memory.specs.Cells.{Mem, cell, word, store}
+use Rattle.memory.specs.Names.{firstEdgeCell, nextEdgeCell, predecessorCountCell, successorCell, successorCountCell}
 use Rattle.memory.specs.Scratch.{scratchWidths}
 use Rattle.memory.specs.declared.layout.Layout.{Layout}
 use Rattle.memory.proofs.CellLaws.{Sized, sized-store, word-store-other}
 use Rattle.memory.proofs.ScratchLaws.{word-put, place-blocks, place-edges}
-use Rattle.edges.specs.Edges.{Holds, Cleared, firstEdgeCell, predecessorCountCell, nextEdgeCell, successorCountCell, successorCell}
+use Rattle.edges.specs.Edges.{Holds, Cleared}
 use Rattle.edges.specs.Predecessors.{chainFrom, edgesInto, AllBelow, Chained}
 use Rattle.edges.specs.Chains.{linkedIn, OnlyChains, AllFrom, Chains, predecessorsSince, ChainedSince}
 use Rattle.edges.proofs.EdgeLaws.{same-word, cell-kept, holds-kept}

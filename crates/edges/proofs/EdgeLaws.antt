@@ -6,11 +6,12 @@ use Prim.Native.Nat.{ℕ, _+_, _*_, _≤_, _<_}
 use native.Mathlib.Omega.{arith}
 use lib.ListN.{getD, set, replicate, getD-replicate}
 use Rattle.memory.specs.Cells.{Mem, cell, word, store, storeCell}
+use Rattle.memory.specs.Names.{successorCell, successorCountCell}
 use Rattle.memory.specs.Scratch.{scratchWidths}
 use Rattle.memory.specs.declared.layout.Layout.{Layout}
 use Rattle.memory.proofs.CellLaws.{Sized, word-cell-same, cell-store-other}
 use Rattle.memory.proofs.ScratchLaws.{sized-among, width-blocks}
-use Rattle.edges.specs.Edges.{Holds, Cleared, successorCountCell, successorCell}
+use Rattle.edges.specs.Edges.{Holds, Cleared}
 
 -- words of cells that are equal are equal
 pub same-word : (m m′ : Mem) (k i : ℕ) → cell m′ k ≡ cell m k → word m′ k i ≡ word m k i

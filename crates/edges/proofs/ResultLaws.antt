@@ -9,11 +9,12 @@ use lib.ListN.{length, length-map}
 use Rattle.dataflow.specs.Lists.{pick, tabulate}
 use Rattle.dataflow.specs.Results.{edgesTo, predecessorsFrom}
 use Rattle.memory.specs.Cells.{Mem, cell, word}
+use Rattle.memory.specs.Names.{firstEdgeCell, nextEdgeCell, predecessorCountCell}
 use Rattle.memory.specs.declared.layout.Layout.{Layout}
 use Rattle.budget.specs.declared.FlowBudget.{FlowBudget}
 use Rattle.budget.specs.declared.Limits.{Limits}
 use Rattle.budget.specs.declared.Charged.{Charged}
-use Rattle.edges.specs.Edges.{Holds, firstEdgeCell, predecessorCountCell, nextEdgeCell}
+use Rattle.edges.specs.Edges.{Holds}
 use Rattle.edges.specs.Predecessors.{chainFrom, edgesInto, AllBelow, Chained, Linked}
 use Rattle.edges.specs.Reachability.{Reached}
 use Rattle.edges.proofs.EdgeLaws.{same-word}

@@ -12,11 +12,12 @@ use lib.Seq.{getD-set-same, getD-set-other}
 use Rattle.dataflow.specs.Search.{Sweep, add}
 use Rattle.dataflow.proofs.Lists.{getD-same}
 use Rattle.memory.specs.Cells.{Mem, cell, word, store}
+use Rattle.memory.specs.Names.{flag, reachableCell, stackBlockCell, successorCell, successorCountCell}
 use Rattle.memory.specs.Scratch.{scratchWidths}
 use Rattle.memory.specs.declared.layout.Layout.{Layout}
 use Rattle.memory.proofs.CellLaws.{Sized, sized-store, word-store-other}
 use Rattle.memory.proofs.ScratchLaws.{word-put, place-blocks}
-use Rattle.edges.specs.Edges.{Holds, Cleared, reachableCell, successorCountCell, stackBlockCell, successorCell, flag}
+use Rattle.edges.specs.Edges.{Holds, Cleared}
 use Rattle.edges.specs.Stack.{stackOf, unvisited, Sweeps, Begun, OnlySearch}
 use Rattle.edges.proofs.EdgeLaws.{cell-kept, holds-kept}
 

@@ -5,52 +5,26 @@ use mathlib.Core.List.{List, [], _∷_, map}
 use Prim.Native.Nat.{ℕ, zero, suc, _+_, _-_, _*_, _≤_, _<_}
 use native.Mathlib.Numerals.{add-one}
 use native.Mathlib.Omega.{arith}
-use lib.ListN.{length, getD, drop, replicate, drop-of-length-le, replicate-append-replicate}
+use lib.ListN.{length, getD, drop, replicate, drop-of-length-le}
 use lib.Seq.{drop-cons}
 use Rattle.dataflow.specs.Lists.{sum}
 use Rattle.dataflow.specs.Search.{Sweep, add, addAll, onNext, takeTop, sweep, sweepFrom}
 use Rattle.memory.specs.Cells.{Mem, word}
+use Rattle.memory.specs.Names.{flag, reachableCell, stackBlockCell, successorCell, successorCountCell}
 use Rattle.memory.specs.declared.layout.Layout.{Layout}
 use Rattle.budget.specs.declared.FlowBudget.{FlowBudget}
 use Rattle.budget.specs.declared.Limits.{Limits}
 use Rattle.budget.specs.declared.Charged.{Charged}
 use Rattle.budget.specs.declared.Charged.the-variants.{Ok, Over}
-use Rattle.budget.specs.Budget.{charged, andCharged, budgetOf}
-use Rattle.budget.proofs.BudgetLaws.{charged-none, charged-append}
+use Rattle.budget.specs.Budget.{charged, budgetOf}
+use Rattle.budget.proofs.BudgetLaws.{charged-none, ones-on, ones-over, ones-crossed}
 use Rattle.edges.specs.declared.reachability.Pushed.{Pushed}
 use Rattle.edges.specs.declared.reachability.Pushed.the-variants as pushed
-use Rattle.edges.specs.Edges.{Holds, reachableCell, successorCountCell, stackBlockCell, successorCell, flag}
+use Rattle.edges.specs.Edges.{Holds}
 use Rattle.edges.specs.Predecessors.{AllBelow}
 use Rattle.edges.specs.Reachability.{sweptFrom, sweepCharges, Reached}
 use Rattle.edges.specs.Stack.{chargedOf, stackOf, Sweeps, Begun, OnlySearch, Entered, Advanced}
 use Rattle.edges.proofs.StackLaws.{search-holds}
-
--- ---- charges of 1
-module _ (l : Limits) (b : FlowBudget) where
-  -- so many were met: the rest are charged to what is left
-  pub ones-on : (k n : ℕ) {b′ : FlowBudget} → charged l b (replicate k 1) ≡ Ok b′ → k ≤ n
-      → charged l b (replicate n 1) ≡ charged l b′ (replicate (n - k) 1)
-  ones-on k n {b′} e h =
-      let q : n ≡ k + (n - k) = omega arith in
-      ap (λ (i : ℕ). charged l b (replicate i 1)) q
-      ∙ ap (charged l b) (sym (replicate-append-replicate k (n - k) 1))
-      ∙ charged-append l b (replicate k 1) (replicate (n - k) 1)
-      ∙ ap (λ (c : Charged). andCharged c (λ x. charged l x (replicate (n - k) 1))) e
-
-  -- so many crossed the limit: so do more
-  pub ones-over : (k n : ℕ) {b′ : FlowBudget} → charged l b (replicate k 1) ≡ Over b′ → k ≤ n → charged l b (replicate n 1) ≡ Over b′
-  ones-over k n {b′} e h =
-      let q : n ≡ k + (n - k) = omega arith in
-      ap (λ (i : ℕ). charged l b (replicate i 1)) q
-      ∙ ap (charged l b) (sym (replicate-append-replicate k (n - k) 1))
-      ∙ charged-append l b (replicate k 1) (replicate (n - k) 1)
-      ∙ ap (λ (c : Charged). andCharged c (λ x. charged l x (replicate (n - k) 1))) e
-
-  -- one more
-  pub ones-more : (k : ℕ) {b′ : FlowBudget} → charged l b (replicate k 1) ≡ Ok b′ → charged l b (replicate (k + 1) 1) ≡ charged l b′ (1 ∷ [])
-  ones-more k {b′} e =
-      let q : k + 1 - k ≡ 1 = omega arith in
-      ones-on k (k + 1) e (omega arith) ∙ ap (λ (i : ℕ). charged l b′ (replicate i 1)) q
 
 -- ---- the successors of a block, k of which have been added to r
 pub record Adding (next : ℕ → List ℕ) (y : Layout) (block k top : ℕ) (r : Sweep) (m : Mem) : Type 0 where
@@ -105,7 +79,7 @@ module _ {y : Layout} {l : Limits} {b left : FlowBudget} {block top k n : ℕ} {
       is = ep ∙ ap (λ (d : Charged). pushed.Over (budgetOf d)) eo
 
       crosses : charged l b (replicate n 1) ≡ Over x
-      crosses = ones-on l b k n paid (omega arith) ∙ ones-over l left 1 (n - k) (sym ec ∙ eo) (omega arith)
+      crosses = ones-crossed l b k n paid less (sym ec ∙ eo)
 
   -- all charges were met, and all successors joined
   pub advanced-all : n ≤ k → k ≤ n → {high : ℕ}

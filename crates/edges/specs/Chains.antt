@@ -5,8 +5,9 @@ use Prim.Native.Nat.{ℕ, suc, _+_, _-_, _*_, _/_, _≤_, _<_}
 use Rattle.dataflow.specs.Lists.{tabulate}
 use Rattle.dataflow.specs.Results.{predecessorsFrom}
 use Rattle.memory.specs.Cells.{Mem, cell, word, store}
+use Rattle.memory.specs.Names.{firstEdgeCell, nextEdgeCell, predecessorCountCell}
 use Rattle.memory.specs.declared.layout.Layout.{Layout}
-use Rattle.edges.specs.Edges.{Holds, firstEdgeCell, predecessorCountCell, nextEdgeCell}
+use Rattle.edges.specs.Edges.{Holds}
 use Rattle.edges.specs.Predecessors.{edgesInto, AllBelow}
 
 -- the words after an edge was put before the chain of the block that it leads to

@@ -1,33 +1,11 @@
 -- A graph of blocks in the words of scratch: how many successors each block has, and which.
 use mathlib.Core.Path.{_≡_}
-use mathlib.Core.Bool.{Bool, true, false}
 use mathlib.Core.List.{List}
 use Prim.Native.Nat.{ℕ, _+_, _*_, _≤_, _<_}
 use lib.ListN.{length, getD}
 use Rattle.memory.specs.Cells.{Mem, cell, word}
+use Rattle.memory.specs.Names.{successorCell, successorCountCell}
 use Rattle.memory.specs.declared.layout.Layout.{Layout}
-
--- the cells of the layout (memory's src/layout.rt): REACHABLE, SUCCESSOR_COUNT, FIRST_EDGE, PREDECESSOR_COUNT, STACK_BLOCK, SUCCESSOR, NEXT_EDGE
-abbrev pub reachableCell : ℕ
-reachableCell = 6
-
-abbrev pub successorCountCell : ℕ
-successorCountCell = 7
-
-abbrev pub firstEdgeCell : ℕ
-firstEdgeCell = 8
-
-abbrev pub predecessorCountCell : ℕ
-predecessorCountCell = 9
-
-abbrev pub stackBlockCell : ℕ
-stackBlockCell = 13
-
-abbrev pub successorCell : ℕ
-successorCell = 16
-
-abbrev pub nextEdgeCell : ℕ
-nextEdgeCell = 17
 
 -- The words hold the graph `next`: at most two edges a block (kinds 12 and 39), each to a block; edge 2 × b + k is the k-th of block b.
 pub record Holds (next : ℕ → List ℕ) (y : Layout) (m : Mem) : Type 0 where
@@ -39,11 +17,6 @@ pub record Holds (next : ℕ → List ℕ) (y : Layout) (m : Mem) : Type 0 where
 -- some graph is held
 abbrev pub Held : Layout → Mem → Type 0
 Held y m = (next : ℕ → List ℕ) × Holds next y m
-
--- a truth value as a word
-abbrev pub flag : Bool → ℕ
-flag true = 1
-flag false = 0
 
 -- each word of cell k, of a word a block, became 0; no other cell changed
 pub record Cleared (y : Layout) (k : ℕ) (m m′ : Mem) : Type 0 where

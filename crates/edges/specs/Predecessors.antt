@@ -5,8 +5,9 @@ use Prim.Native.Nat.{ℕ, zero, suc, _*_, _/_, _<_}
 use Rattle.dataflow.specs.Lists.{tabulate}
 use Rattle.dataflow.specs.Results.{predecessorsFrom}
 use Rattle.memory.specs.Cells.{Mem, cell, word}
+use Rattle.memory.specs.Names.{firstEdgeCell, nextEdgeCell, predecessorCountCell}
 use Rattle.memory.specs.declared.layout.Layout.{Layout}
-use Rattle.edges.specs.Edges.{Holds, firstEdgeCell, predecessorCountCell, nextEdgeCell}
+use Rattle.edges.specs.Edges.{Holds}
 
 -- n edges of a chain, from edge e on
 abbrev pub chainFrom : Mem → ℕ → ℕ → List ℕ

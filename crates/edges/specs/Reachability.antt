@@ -7,13 +7,14 @@ use lib.ListN.{length, getD, replicate}
 use Rattle.dataflow.specs.Lists.{sum}
 use Rattle.dataflow.specs.Search.{Sweep, sweep, sweepFrom}
 use Rattle.memory.specs.Cells.{Mem, cell, word}
+use Rattle.memory.specs.Names.{flag, reachableCell, stackBlockCell}
 use Rattle.memory.specs.declared.layout.Layout.{Layout}
 use Rattle.budget.specs.declared.FlowBudget.{FlowBudget}
 use Rattle.budget.specs.declared.Limits.{Limits}
 use Rattle.budget.specs.declared.Charged.{Charged}
 use Rattle.budget.specs.declared.Charged.the-variants.{Ok}
 use Rattle.budget.specs.Budget.{charged}
-use Rattle.edges.specs.Edges.{Holds, reachableCell, stackBlockCell, flag}
+use Rattle.edges.specs.Edges.{Holds}
 
 -- the search from block 0 of n blocks, to its end
 abbrev pub sweptFrom : (ℕ → List ℕ) → ℕ → Sweep

@@ -6,6 +6,7 @@ use Prim.Native.Nat.{ℕ, zero, suc, _+_, _≤_, _<_}
 use lib.ListN.{length, getD, replicate}
 use Rattle.dataflow.specs.Search.{Sweep, add, addAll, sweepFrom}
 use Rattle.memory.specs.Cells.{Mem, cell, word}
+use Rattle.memory.specs.Names.{flag, reachableCell, stackBlockCell}
 use Rattle.memory.specs.declared.layout.Layout.{Layout}
 use Rattle.budget.specs.declared.FlowBudget.{FlowBudget}
 use Rattle.budget.specs.declared.Limits.{Limits}
@@ -14,7 +15,7 @@ use Rattle.budget.specs.declared.Charged.the-variants.{Ok, Over}
 use Rattle.budget.specs.Budget.{charged}
 use Rattle.edges.specs.declared.reachability.Pushed.{Pushed}
 use Rattle.edges.specs.declared.reachability.Pushed.the-variants as pushed
-use Rattle.edges.specs.Edges.{Holds, reachableCell, stackBlockCell, flag}
+use Rattle.edges.specs.Edges.{Holds}
 use Rattle.edges.specs.Predecessors.{AllBelow}
 
 -- an answer's budget

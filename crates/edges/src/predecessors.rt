@@ -6,8 +6,9 @@ use memory::layout::Layout;
 ghost use mathlib.Core.Path.{_≡_};
 ghost use Prim.Native.Nat.{_<_, _*_};
 ghost use lib.ListN.{length};
+ghost use Rattle.memory.specs.Names.{predecessorCountCell};
 ghost use Rattle.memory.specs.Scratch.{scratch, Room};
-ghost use Rattle.edges.specs.Edges.{Held, Cleared, predecessorCountCell};
+ghost use Rattle.edges.specs.Edges.{Held, Cleared};
 ghost use Rattle.edges.specs.Predecessors.{Linked};
 ghost use Rattle.edges.specs.Chains.{Linking, Chaining, RoomToCount, linkedIn};
 

@@ -8,9 +8,10 @@ use memory::layout::Layout;
 ghost use mathlib.Core.Path.{_≡_};
 ghost use Prim.Native.Nat.{_<_};
 ghost use lib.ListN.{length};
+ghost use Rattle.memory.specs.Names.{reachableCell};
 ghost use Rattle.budget.specs.Budget.{budgetOf};
 ghost use Rattle.memory.specs.Scratch.{scratch, Room};
-ghost use Rattle.edges.specs.Edges.{Held, Cleared, reachableCell};
+ghost use Rattle.edges.specs.Edges.{Held, Cleared};
 ghost use Rattle.edges.specs.Reachability.{Reached};
 ghost use Rattle.edges.specs.Stack.{Sweeping, Begun, Advanced, Entered, leftOf};
 

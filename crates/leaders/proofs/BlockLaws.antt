@@ -11,13 +11,14 @@ use Rattle.dataflow.specs.Code.{leader, leaders, blocks, headOr}
 use Rattle.dataflow.specs.Results.{blockCount}
 use Rattle.dataflow.proofs.Leaders.{leaders-are}
 use Rattle.memory.specs.Cells.{Mem, cell}
+use Rattle.memory.specs.Names.{blockOfCell, flag}
 use Rattle.sheet.specs.declared.script.Script.{Script}
 use Rattle.sheet.specs.Decode.{partsOf}
 use Rattle.instructions.specs.Sound.{Sound}
 use Rattle.script.specs.Script.{flowCode}
 use Rattle.script.proofs.ScriptLaws.{code-length}
-use Rattle.leaders.specs.Numbers.{blockOfCell, marked, startsOf, Numbered}
-use Rattle.leaders.specs.Leaders.{flag, Led}
+use Rattle.leaders.specs.Numbers.{marked, startsOf, Numbered}
+use Rattle.leaders.specs.Leaders.{Led}
 
 -- two tests that agree on k, k + 1, .. keep the same of them
 keep-same : (f g : ℕ → Bool) (k n : ℕ) → ((i : ℕ) → k ≤ i → i < k + n → f i ≡ g i) → keep f (range k n) ≡ keep g (range k n)

@@ -17,6 +17,7 @@ use Rattle.operands.specs.Kinds.{endsBlock}
 use Rattle.operands.specs.Operands.{targetsOf}
 use Rattle.operands.specs.Instructions.{valuesOf, Readable}
 use Rattle.memory.specs.Cells.{Mem, cell, word, store, storeCell}
+use Rattle.memory.specs.Names.{blockOfCell, flag, offsetCell}
 use Rattle.memory.specs.Scratch.{scratchWidths}
 use Rattle.memory.specs.declared.layout.Layout.{Layout}
 use Rattle.memory.proofs.CellLaws.{Sized, sized-store, sized-cell, cell-store-other, word-cell-same, word-cell-other, word-store-other}
@@ -28,15 +29,14 @@ use Rattle.budget.specs.declared.Limits.{Limits}
 use Rattle.budget.specs.declared.Charged.{Charged}
 use Rattle.budget.specs.declared.Charged.the-variants.{Ok, Over}
 use Rattle.budget.specs.Budget.{charged}
-use Rattle.budget.proofs.BudgetLaws.{ones-over}
+use Rattle.budget.proofs.BudgetLaws.{ones-crossed}
 use Rattle.instructions.specs.declared.placed.Placed.{Placed}
 use Rattle.instructions.specs.Placed.{placedAt}
 use Rattle.instructions.specs.Sets.{AllBelow}
 use Rattle.instructions.specs.Sound.{Sound, codeOffset, codeInstruction}
 use Rattle.script.specs.Script.{flowCode}
 use Rattle.script.proofs.ScriptLaws.{code-at, code-length, quiet}
-use Rattle.leaders.specs.Numbers.{blockOfCell}
-use Rattle.leaders.specs.Leaders.{offsetCell, marking, flag, markedBy, leads, ledBy, Begun, Led, Leads}
+use Rattle.leaders.specs.Leaders.{marking, markedBy, leads, ledBy, Begun, Led, Leads}
 use Rattle.leaders.proofs.MarkLaws.{marked-word, marked-other, led-more}
 
 -- after i instructions
@@ -197,7 +197,7 @@ module _ (s : List ℕ) (x : Script) (h : Sound s x) where
   pub leads-over : (l : Limits) (b left y : FlowBudget) (m m′ : Mem) (r : Charged) (i : ℕ) → Marking s x m m′ i → i < x .count
       → charged l b (replicate i 1) ≡ Ok left → r ≡ charged l left (1 ∷ []) → r ≡ Over y → Leads s x l b m m′ r
   leads-over l b left y m m′ r i g h c e f = record {
-    charges = f ∙ sym (ones-over l b left i c (x .count) y h (sym e ∙ f));
+    charges = f ∙ sym (ones-crossed l b i (x .count) c h (sym e ∙ f));
     led = λ z q. let o : _≡_ {A = ℕ} 0 1 = cc in absurd (omega arith);
     others = g .others;
   }

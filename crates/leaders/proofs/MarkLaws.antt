@@ -14,6 +14,7 @@ use borrow.Author.Tests.{eq-eqb, ne-eqb, lt-ltb, le-ltb}
 use Rattle.dataflow.specs.Lists.{pick, range, some, elem}
 use Rattle.dataflow.specs.Code.{Instruction, instructionAt}
 use Rattle.memory.specs.Cells.{Mem, cell, word, store}
+use Rattle.memory.specs.Names.{blockOfCell, flag}
 use Rattle.memory.specs.Scratch.{scratchWidths, Place}
 use Rattle.memory.specs.declared.layout.Layout.{Layout}
 use Rattle.memory.proofs.CellLaws.{Sized, sized-store, cell-store-other, word-store-other}
@@ -24,8 +25,7 @@ use Rattle.operands.specs.declared.slots.JumpTarget.{JumpTarget}
 use Rattle.operands.specs.declared.instruction.Value.the-variants as values
 use Rattle.operands.specs.declared.instruction.TargetOperand.{TargetOperand}
 use Rattle.operands.specs.declared.instruction.TargetOperand.the-variants as targets
-use Rattle.leaders.specs.Numbers.{blockOfCell}
-use Rattle.leaders.specs.Leaders.{offsetCell, flag, markAll, markNext, markedBy, leads, ledBy}
+use Rattle.leaders.specs.Leaders.{markAll, markNext, markedBy, leads, ledBy}
 use Rattle.leaders.proofs.NumberLaws.{range-snoc}
 
 -- ---- what the marks are after stores

@@ -14,8 +14,9 @@ use borrow.Author.Tests.{eq-eqb, ne-eqb, eqb-true}
 use Rattle.dataflow.specs.Lists.{pick, tabulate, range, keep}
 use Rattle.dataflow.proofs.Lists.{length-tabulate, getD-tabulate}
 use Rattle.memory.specs.Cells.{Mem, cell, word, store}
+use Rattle.memory.specs.Names.{blockOfCell, leaderCell}
 use Rattle.memory.proofs.CellLaws.{cell-store-same, cell-store-other, word-store-same, word-store-other}
-use Rattle.leaders.specs.Numbers.{blockOfCell, leaderCell, marked, startsOf, numbersOf, numberOne, countOne, Numbered}
+use Rattle.leaders.specs.Numbers.{marked, startsOf, numbersOf, numberOne, countOne, Numbered}
 
 pub range-snoc : (k n : ℕ) → range k (suc n) ≡ range k n ++ ((k + n) ∷ [])
 range-snoc k zero = ap (λ (x : ℕ). x ∷ []) (omega arith)

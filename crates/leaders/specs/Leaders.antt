@@ -1,6 +1,6 @@
 -- The first loop of `graph` in flow.rs: a charge an instruction, and the leaders marked.
 use mathlib.Core.Path.{_≡_}
-use mathlib.Core.Bool.{Bool, true, false, _&&_, _||_}
+use mathlib.Core.Bool.{Bool, _&&_, _||_}
 use mathlib.Core.List.{List, [], _∷_}
 use Prim.Native.Nat.{ℕ, suc, _+_, _<_}
 use lib.Dec.{eqb, ltb}
@@ -8,6 +8,7 @@ use lib.ListN.{replicate}
 use Rattle.dataflow.specs.Lists.{pick, range, some, elem}
 use Rattle.dataflow.specs.Code.{Instruction, instructionAt, leader}
 use Rattle.memory.specs.Cells.{Mem, cell, word, store}
+use Rattle.memory.specs.Names.{blockOfCell, flag, offsetCell}
 use Rattle.memory.specs.declared.layout.Layout.{Layout}
 use Rattle.budget.specs.declared.FlowBudget.{FlowBudget}
 use Rattle.budget.specs.declared.Limits.{Limits}
@@ -18,20 +19,10 @@ use Rattle.sheet.specs.declared.script.Script.{Script}
 use Rattle.sheet.specs.Decode.{partsOf}
 use Rattle.instructions.specs.Sound.{codeOffset}
 use Rattle.script.specs.Script.{flowCode}
-use Rattle.leaders.specs.Numbers.{blockOfCell}
-
--- the cell of the layout that has each instruction's offset: OFFSET
-abbrev pub offsetCell : ℕ
-offsetCell = 0
 
 -- the layout of scratch before the blocks are known
 abbrev pub marking : Script → Layout
 marking x = record { instructions = x .count; blocks = 0; words = 0; awaits = 0 }
-
--- a truth value as a word
-abbrev pub flag : Bool → ℕ
-flag true = 1
-flag false = 0
 
 -- these instructions marked
 unfoldable pub markAll : List ℕ → Mem → Mem

@@ -7,13 +7,7 @@ use lib.Dec.{eqb}
 use lib.ListN.{length, getD, take}
 use Rattle.dataflow.specs.Lists.{pick, tabulate, range, keep}
 use Rattle.memory.specs.Cells.{Mem, cell, word, store}
-
--- the cells of the layout (memory's src/layout.rt): BLOCK_OF, LEADER
-abbrev pub blockOfCell : ℕ
-blockOfCell = 1
-
-abbrev pub leaderCell : ℕ
-leaderCell = 2
+use Rattle.memory.specs.Names.{blockOfCell, leaderCell}
 
 -- whether instruction i is marked
 abbrev pub marked : List ℕ → ℕ → Bool

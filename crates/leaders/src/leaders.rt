@@ -17,10 +17,10 @@ ghost use Rattle.operands.specs.Kinds.{endsBlock};
 ghost use Rattle.operands.specs.Operands.{targetsOf};
 ghost use Rattle.operands.specs.Instructions.{Readable, valuesOf};
 ghost use Rattle.memory.specs.Cells.{store};
+ghost use Rattle.memory.specs.Names.{blockOfCell};
 ghost use Rattle.memory.specs.Scratch.{scratch, Room};
 ghost use Rattle.instructions.specs.Sets.{AllBelow};
 ghost use Rattle.instructions.specs.Sound.{Sound};
-ghost use Rattle.leaders.specs.Numbers.{blockOfCell};
 ghost use Rattle.leaders.specs.Leaders.{marking, markAll, markNext, markedBy, Begun, Leads};
 
 // Marks the leaders of a script.

@@ -6,8 +6,9 @@ ghost use mathlib.Core.Bool.{true};
 ghost use Prim.Native.Nat.{_<_, _≤_};
 ghost use lib.ListN.{length};
 ghost use Rattle.memory.specs.Cells.{cell, word};
+ghost use Rattle.memory.specs.Names.{blockOfCell};
 ghost use Rattle.memory.specs.Scratch.{scratch, Room};
-ghost use Rattle.leaders.specs.Numbers.{blockOfCell, marked, numberOne, countOne, Numbered};
+ghost use Rattle.leaders.specs.Numbers.{marked, numberOne, countOne, Numbered};
 
 // Each instruction's mark becomes the number of its block, and where the blocks begin is noted. How many blocks there are.
 pub fn number(s: &mut [u64], y: Layout) -> usize

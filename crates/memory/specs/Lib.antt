@@ -1,4 +1,5 @@
 -- Lent words as a list of cells.
 pub mod Cells
+pub mod Names
 pub mod Scratch
 pub mod Sets

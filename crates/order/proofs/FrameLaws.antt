@@ -7,9 +7,9 @@ use lib.ListN.{length, getD, set, drop, length-drop}
 use lib.Seq.{getD-set-same, getD-set-other, getD-drop}
 use Rattle.dataflow.specs.Search.{Frame}
 use Rattle.memory.specs.Cells.{Mem, cell, word}
+use Rattle.memory.specs.Names.{stackBlockCell, stackEdgeCell}
 use Rattle.memory.specs.declared.layout.Layout.{Layout}
 use Rattle.edges.specs.Edges.{Holds, Held}
-use Rattle.order.specs.Postorder.{stackBlockCell, stackEdgeCell}
 use Rattle.order.specs.Turns.{framesOf, stackOf, Kept, Facing}
 
 -- what the word at i of the stack's cells says

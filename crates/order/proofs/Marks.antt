@@ -5,7 +5,7 @@ use mathlib.Core.List.{List, [], _∷_, map}
 use Prim.Native.Nat.{ℕ, zero, suc, _≤_, _<_}
 use native.Mathlib.Omega.{arith}
 use lib.ListN.{length, getD, set, replicate, length-set}
-use Rattle.edges.specs.Edges.{flag}
+use Rattle.memory.specs.Names.{flag}
 use Rattle.order.specs.Turns.{marked, marks}
 
 pub marked-not : (x : ℕ) → (x ≡ 0 → ⊥) → marked x ≡ true

@@ -5,6 +5,7 @@ use Prim.Native.Nat.{ℕ, _*_, _<_}
 use lib.ListN.{length, replicate, take}
 use Rattle.dataflow.specs.Search.{Search, search, searchFrom, turns, allTurns}
 use Rattle.memory.specs.Cells.{Mem, cell}
+use Rattle.memory.specs.Names.{orderCell, stackBlockCell, stackEdgeCell, visitedCell}
 use Rattle.memory.specs.declared.layout.Layout.{Layout}
 use Rattle.budget.specs.declared.FlowBudget.{FlowBudget}
 use Rattle.budget.specs.declared.Limits.{Limits}
@@ -14,19 +15,6 @@ use Rattle.budget.specs.Budget.{charged}
 use Rattle.edges.specs.Edges.{Holds}
 use Rattle.order.specs.declared.Ordered.{Ordered}
 use Rattle.order.specs.declared.Ordered.the-variants.{Ok, Over}
-
--- the cells of the layout (memory's src/layout.rt): ORDER, STACK_BLOCK, STACK_EDGE, VISITED
-abbrev pub orderCell : ℕ
-orderCell = 10
-
-abbrev pub stackBlockCell : ℕ
-stackBlockCell = 13
-
-abbrev pub stackEdgeCell : ℕ
-stackEdgeCell = 14
-
-abbrev pub visitedCell : ℕ
-visitedCell = 15
 
 -- the search from block 0 of n blocks, to its end
 abbrev pub searchedFrom : (ℕ → List ℕ) → ℕ → Search

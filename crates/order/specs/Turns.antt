@@ -6,14 +6,15 @@ use Prim.Native.Nat.{ℕ, zero, suc, _+_, _-_, _*_, _≤_, _<_}
 use lib.ListN.{getD, take, drop}
 use Rattle.dataflow.specs.Search.{Frame, Search, look, advance, onTop, searchFrom}
 use Rattle.memory.specs.Cells.{Mem, cell, word}
+use Rattle.memory.specs.Names.{flag, orderCell, stackBlockCell, stackEdgeCell, successorCountCell, visitedCell}
 use Rattle.memory.specs.declared.layout.Layout.{Layout}
 use Rattle.budget.specs.declared.FlowBudget.{FlowBudget}
 use Rattle.budget.specs.declared.Limits.{Limits}
 use Rattle.budget.specs.declared.Charged.the-variants as charging
 use Rattle.budget.specs.Budget.{charged}
-use Rattle.edges.specs.Edges.{Holds, Held, flag, successorCountCell}
+use Rattle.edges.specs.Edges.{Holds, Held}
 use Rattle.order.specs.declared.Ordered.{Ordered}
-use Rattle.order.specs.Postorder.{orderCell, stackBlockCell, stackEdgeCell, visitedCell, Searched}
+use Rattle.order.specs.Postorder.{Searched}
 
 -- a word of VISITED as a truth value
 abbrev pub marked : ℕ → Bool

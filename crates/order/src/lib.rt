@@ -8,10 +8,11 @@ ghost use mathlib.Core.Path.{_≡_};
 ghost use Prim.Native.Nat.{_<_, _≤_};
 ghost use lib.ListN.{length, replicate};
 ghost use Rattle.memory.specs.Cells.{cell, storeCell};
+ghost use Rattle.memory.specs.Names.{visitedCell};
 ghost use Rattle.memory.specs.Scratch.{scratch, Room};
 ghost use Rattle.budget.specs.Budget.{budgetOf};
 ghost use Rattle.edges.specs.Edges.{Held};
-ghost use Rattle.order.specs.Postorder.{Searched, visitedCell};
+ghost use Rattle.order.specs.Postorder.{Searched};
 ghost use Rattle.order.specs.Turns.{marks, Good, Kept, Begun, Facing, Entered, Turned, Looked, Resumed};
 
 // How many blocks are in the order and the budget to go on with, or the one that crossed the limit.

@@ -7,8 +7,6 @@ use Rattle.sheet.proofs.StageLaws.{end-left, end-open, end-passed}
 use Rattle.sheet.proofs.check_end.Statement.{statement}
 use Rattle.sheet.proofs.check_end.Tie as tie
 
--- `sheet::check_end` meets its contract. Assumes nothing.
-
 returns : tie.Need-returns
 returns c =
     let a = c .before .before .args in end-left (now (a .s)) (a .script) (a .end) (a .last) (λ e. omega arith)

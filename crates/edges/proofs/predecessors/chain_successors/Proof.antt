@@ -6,8 +6,9 @@ use native.Mathlib.Omega.{arith}
 use lib.ListN.{length}
 use borrow.Author.Needs.{needs}
 use Rattle.edges.specs.Chains.{OnlyChains, ChainedSince}
-use Rattle.edges.specs.Edges.{Holds, successorCountCell}
+use Rattle.edges.specs.Edges.{Holds}
 use Rattle.memory.specs.Cells.{word}
+use Rattle.memory.specs.Names.{successorCountCell}
 use Rattle.memory.specs.Scratch.{scratch, Room}
 use Rattle.edges.proofs.ChainLaws.{Partly, partly-none, partly-more, partly-all, partly-to, partly-few}
 use Rattle.edges.proofs.ChainLaws.{only-none, only-more, only-linked, only-holds}

@@ -11,9 +11,9 @@ use Rattle.dataflow.specs.Search.{Sweep}
 use Rattle.edges.specs.Edges.{Holds}
 use Rattle.edges.specs.Stack.{Sweeps, OnlySearch}
 use Rattle.memory.specs.Scratch.{scratch}
-use Rattle.budget.proofs.BudgetLaws.{charged-none}
+use Rattle.budget.proofs.BudgetLaws.{charged-none, ones-more}
 use Rattle.edges.proofs.StackLaws.{search-none, search-more}
-use Rattle.edges.proofs.SweepLaws.{ones-more, Adding, adding-none, adding-more, successor-at, advanced-over, advanced-all}
+use Rattle.edges.proofs.SweepLaws.{Adding, adding-none, adding-more, successor-at, advanced-over, advanced-all}
 use Rattle.memory.proofs.ScratchLaws.{place-blocks, place-edges}
 use Rattle.edges.proofs.reachability.push_successors.Statement.{statement}
 use Rattle.edges.proofs.reachability.push_successors.Tie as tie

@@ -79,7 +79,7 @@ loop-again c =
       refl,
       search needs,
       next-at (now (c .before .before .before .before .before .before .before .before .before .before .before .before .before .before .before .before .before .before .args .sheet)) (c .before .before .before .before .before .before .before .before .before .before .before .before .before .before .before .before .before .before .args .script) (c .before .before .before .before .before .before .before .before .before .before .before .before .before .before .before .before .before .before .pre .0) (l .pc) (l .at) _ (c .before .before .before .before .before .before .before .before .instruction-at .ensures) (l .inv .3),
-      ones-more (c .before .before .before .before .before .before .before .before .before .before .before .before .before .before .before .before .before .before .args .limits) (c .before .before .before .before .before .before .before .before .before .before .before .before .before .before .before .before .before .before .args .budget) (l .left) (l .pc) (l .inv .4) ∙ sym (c .before .before .before .before .before .before .before .before .before .before .before .before .charge .ensures) ∙ c .before .before .before .before .before .before .before .before .before .before .c .given .1,
+      ones-more (c .before .before .before .before .before .before .before .before .before .before .before .before .before .before .before .before .before .before .args .limits) (c .before .before .before .before .before .before .before .before .before .before .before .before .before .before .before .before .before .before .args .budget) (l .pc) (l .inv .4) ∙ sym (c .before .before .before .before .before .before .before .before .before .before .before .before .charge .ensures) ∙ c .before .before .before .before .before .before .before .before .before .before .c .given .1,
       marking-placed (now (c .before .before .before .before .before .before .before .before .before .before .before .before .before .before .before .before .before .before .args .sheet)) (c .before .before .before .before .before .before .before .before .before .before .before .before .before .before .before .before .before .before .args .script) (c .before .before .before .before .before .before .before .before .before .before .before .before .before .before .before .before .before .before .pre .0) (l .pc) (l .at) _ (c .before .before .before .before .before .before .before .before .instruction-at .ensures) (l .inv .3) _ _ _ _ (l .inv .5)
           (scratch-sized (l .s) room) (c .before .before .before .before .before .before .before .before .before .before .before .before .before .if1 .taken) (c .before .before .before .before .before .before .put .ensures) (c .before .before .mark .ensures),
     )

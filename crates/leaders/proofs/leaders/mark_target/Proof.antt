@@ -4,8 +4,8 @@ use Prim.Native.Nat.{ℕ}
 use native.Mathlib.Omega.{arith}
 use denote.Ref.{now}
 use borrow.Author.Needs.{needs}
-use Rattle.leaders.specs.Numbers.{blockOfCell}
 use Rattle.memory.specs.Cells.{store}
+use Rattle.memory.specs.Names.{blockOfCell}
 use Rattle.memory.specs.Scratch.{scratch}
 use Rattle.operands.specs.Instructions.{valuesOf}
 use Rattle.operands.specs.Operands.{targetsOf}

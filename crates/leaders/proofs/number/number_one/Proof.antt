@@ -6,8 +6,9 @@ use native.Mathlib.Omega.{arith}
 use denote.Ref.{now}
 use borrow.Author.Needs.{needs}
 use borrow.Author.Tests.{eq-eqb, ne-eqb}
-use Rattle.leaders.specs.Numbers.{blockOfCell, numberOne, countOne}
+use Rattle.leaders.specs.Numbers.{numberOne, countOne}
 use Rattle.memory.specs.Cells.{Mem, word, store}
+use Rattle.memory.specs.Names.{blockOfCell}
 use Rattle.memory.specs.Scratch.{scratch, Room}
 use Rattle.memory.proofs.ScratchLaws.{place-instructions}
 use Rattle.leaders.proofs.number.number_one.Statement.{statement}

@@ -3,8 +3,6 @@ use Rattle.records.proofs.RecordLaws.{fields-module, fields-slot, field
 use Rattle.records.proofs.record.fields_step.Statement.{statement}
 use Rattle.records.proofs.record.fields_step.Tie as tie
 
--- `records::record::fields_step` meets its contract. Assumes nothing.
-
 returns : tie.Need-returns
 returns c =
     let a = c .before .args in fields-module (a .f) (a .end) (a .kind) (c .if1 .taken)
