@@ -110,13 +110,16 @@ pub fn slot_record(s: &[u8], at: usize) -> Step
 fn fields_step(f: Faults, end: usize, kind: usize) -> Step
     ensures { λ r. ⌜ r ≡ stepOf (fieldsFault (f .modules) (f .slots) (f .targets)) end kind ⌝ }
 {
-    if f.modules {
+    let modules = f.modules;
+    let slots = f.slots;
+    let targets = f.targets;
+    if modules {
         return Step::Stop(Refusal::BadBody);
     }
-    if f.slots {
+    if slots {
         return Step::Stop(Refusal::NoSuchSlot);
     }
-    if f.targets {
+    if targets {
         return Step::Stop(Refusal::NoSuchTarget);
     }
     Step::Next(end, kind)
