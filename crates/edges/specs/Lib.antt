@@ -4,3 +4,4 @@ pub mod Predecessors
 pub mod Chains
 pub mod Reachability
 pub mod Stack
+pub mod Flow

@@ -21,17 +21,17 @@ use Rattle.leaders.specs.Numbers.{marked, startsOf, Numbered}
 use Rattle.leaders.specs.Leaders.{Led}
 
 -- two tests that agree on k, k + 1, .. keep the same of them
-keep-same : (f g : ℕ → Bool) (k n : ℕ) → ((i : ℕ) → k ≤ i → i < k + n → f i ≡ g i) → keep f (range k n) ≡ keep g (range k n)
+pub keep-same : (f g : ℕ → Bool) (k n : ℕ) → ((i : ℕ) → k ≤ i → i < k + n → f i ≡ g i) → keep f (range k n) ≡ keep g (range k n)
 keep-same f g k zero h = refl
 keep-same f g k (suc n) h =
     ap₂ (λ (t : Bool) (l : List ℕ). pick t (k ∷ l) l) (h k (omega arith) (omega arith))
     (keep-same f g (suc k) n (λ i a b. h i (omega arith) (omega arith)))
 
-unflag : (b : Bool) → not (eqb (flag b) 0) ≡ b
+pub unflag : (b : Bool) → not (eqb (flag b) 0) ≡ b
 unflag true = refl
 unflag false = refl
 
-length-map : {A B : Type 0} (f : A → B) (l : List A) → length (map f l) ≡ length l
+pub length-map : {A B : Type 0} (f : A → B) (l : List A) → length (map f l) ≡ length l
 length-map f [] = refl
 length-map f (x ∷ l) = ap suc (length-map f l)
 

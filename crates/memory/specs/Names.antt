@@ -1,6 +1,6 @@
--- The cells of scratch that every layout has, by the names of src/layout.rt.
+-- The cells of both buffers, by the names of src/layout.rt.
 use mathlib.Core.Bool.{Bool, true, false}
-use Prim.Native.Nat.{ℕ}
+use Prim.Native.Nat.{ℕ, _+_, _*_}
 
 -- a word an instruction
 abbrev pub offsetCell : ℕ
@@ -12,7 +12,16 @@ blockOfCell = 1
 abbrev pub leaderCell : ℕ
 leaderCell = 2
 
+abbrev pub costCell : ℕ
+costCell = 3
+
 -- a word a block
+abbrev pub startCell : ℕ
+startCell = 4
+
+abbrev pub endCell : ℕ
+endCell = 5
+
 abbrev pub reachableCell : ℕ
 reachableCell = 6
 
@@ -27,6 +36,12 @@ predecessorCountCell = 9
 
 abbrev pub orderCell : ℕ
 orderCell = 10
+
+abbrev pub ringCell : ℕ
+ringCell = 11
+
+abbrev pub queuedCell : ℕ
+queuedCell = 12
 
 abbrev pub stackBlockCell : ℕ
 stackBlockCell = 13
@@ -43,6 +58,33 @@ successorCell = 16
 
 abbrev pub nextEdgeCell : ℕ
 nextEdgeCell = 17
+
+-- rows: what block b uses and what it defines
+abbrev pub usesRow : ℕ → ℕ
+usesRow b = 18 + 2 * b
+
+abbrev pub definesRow : ℕ → ℕ
+definesRow b = 19 + 2 * b
+
+-- and of n blocks together: the running state, the running live set, the parameters, the host slots
+abbrev pub stateRow : ℕ → ℕ
+stateRow n = 18 + 4 * n
+
+abbrev pub liveStateRow : ℕ → ℕ
+liveStateRow n = 19 + 4 * n
+
+abbrev pub parametersRow : ℕ → ℕ
+parametersRow n = 20 + 4 * n
+
+abbrev pub hostsRow : ℕ → ℕ
+hostsRow n = 21 + 4 * n
+
+-- rows of the sets buffer: what is initialized at block b's exit, and what is live at its entry
+abbrev pub initializedRow : ℕ → ℕ
+initializedRow b = 2 * b
+
+abbrev pub liveRow : ℕ → ℕ
+liveRow b = 2 * b + 1
 
 -- a mark as a word
 abbrev pub flag : Bool → ℕ

@@ -3,6 +3,7 @@ ghost use mathlib.Core.Path.{_≡_};
 ghost use Prim.Native.Nat.{ℕ, _+_, _*_, _≤_, _<_};
 ghost use lib.ListN.{take, getD};
 ghost use Rattle.memory.specs.Cells.{total};
+ghost use Rattle.memory.specs.Names.{usesRow, definesRow, stateRow, liveStateRow, parametersRow, hostsRow, initializedRow, liveRow};
 ghost use Rattle.memory.specs.Scratch.{scratchWidths, scratchCells, scratchWords};
 ghost use Rattle.memory.specs.Sets.{setsWidths, setsWords};
 
@@ -61,7 +62,7 @@ impl Layout {
     // The cell of a block's uses.
     pub fn uses(self, block: usize) -> usize
         requires { ⌜ (block < self .blocks) × (self .blocks ≤ 65536) ⌝ }
-        ensures { λ r. ⌜ r ≡ 18 + 2 * block ⌝ }
+        ensures { λ r. ⌜ r ≡ usesRow block ⌝ }
     {
         18 + 2 * block
     }
@@ -69,7 +70,7 @@ impl Layout {
     // The cell of a block's defines.
     pub fn defines(self, block: usize) -> usize
         requires { ⌜ (block < self .blocks) × (self .blocks ≤ 65536) ⌝ }
-        ensures { λ r. ⌜ r ≡ 19 + 2 * block ⌝ }
+        ensures { λ r. ⌜ r ≡ definesRow block ⌝ }
     {
         19 + 2 * block
     }
@@ -77,30 +78,45 @@ impl Layout {
     // The cells of the four rows behind those of the blocks: the running state, the running live set, the parameters, the host slots.
     pub fn state(self) -> usize
         requires { ⌜ self .blocks ≤ 65536 ⌝ }
-        ensures { λ r. ⌜ r ≡ 18 + 4 * self .blocks ⌝ }
+        ensures { λ r. ⌜ r ≡ stateRow (self .blocks) ⌝ }
     {
         18 + 4 * self.blocks
     }
 
     pub fn live_state(self) -> usize
         requires { ⌜ self .blocks ≤ 65536 ⌝ }
-        ensures { λ r. ⌜ r ≡ 19 + 4 * self .blocks ⌝ }
+        ensures { λ r. ⌜ r ≡ liveStateRow (self .blocks) ⌝ }
     {
         19 + 4 * self.blocks
     }
 
     pub fn parameters(self) -> usize
         requires { ⌜ self .blocks ≤ 65536 ⌝ }
-        ensures { λ r. ⌜ r ≡ 20 + 4 * self .blocks ⌝ }
+        ensures { λ r. ⌜ r ≡ parametersRow (self .blocks) ⌝ }
     {
         20 + 4 * self.blocks
     }
 
     pub fn hosts(self) -> usize
         requires { ⌜ self .blocks ≤ 65536 ⌝ }
-        ensures { λ r. ⌜ r ≡ 21 + 4 * self .blocks ⌝ }
+        ensures { λ r. ⌜ r ≡ hostsRow (self .blocks) ⌝ }
     {
         21 + 4 * self.blocks
+    }
+
+    // The cells of a block's two rows in the sets buffer.
+    pub fn initialized(self, block: usize) -> usize
+        requires { ⌜ (block < self .blocks) × (self .blocks ≤ 65536) ⌝ }
+        ensures { λ r. ⌜ r ≡ initializedRow block ⌝ }
+    {
+        2 * block
+    }
+
+    pub fn live(self, block: usize) -> usize
+        requires { ⌜ (block < self .blocks) × (self .blocks ≤ 65536) ⌝ }
+        ensures { λ r. ⌜ r ≡ liveRow block ⌝ }
+    {
+        2 * block + 1
     }
 
     // Document 01's size of scratch.

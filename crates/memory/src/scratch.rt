@@ -34,6 +34,15 @@ pub fn clear(s: &mut [u64], y: Layout, k: usize)
     bitset::fill(s, y.scratch_start(k), w, 0);
 }
 
+// Cell d becomes cell k. Neither is a row, and both are as wide.
+pub fn copy(s: &mut [u64], y: Layout, d: usize, k: usize)
+    requires { ⌜ Room y (length (now s)) × (d < 18) × (k < 18) × (getD (scratchWidths y) d 0 ≡ getD (scratchWidths y) k 0) × (d ≡ k → ⊥) ⌝ }
+    ensures { λ _. ⌜ scratch y (now (s .exit)) ≡ storeCell (scratch y (now (s .entry))) d (cell (scratch y (now (s .entry))) k) ⌝ }
+{
+    let w = y.scratch_width(d);
+    bitset::copy_within(s, y.scratch_start(d), y.scratch_start(k), w);
+}
+
 // Whether the slot is in row k.
 pub fn contains(s: &[u64], y: Layout, k: usize, slot: usize) -> bool
     requires { ⌜ Room y (length (now s)) × Row y k × (slot / 64 < y .words) ⌝ }

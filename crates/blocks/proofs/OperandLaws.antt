@@ -1,0 +1,141 @@
+-- The operands of an instruction that are read one by one: at most two targets, few inputs, and the one that is read. Assumes nothing.
+use mathlib.Core.Path.{_≡_, refl, sym, ap, subst, _∙_}
+use mathlib.Core.Bool.{Bool, true, false}
+use mathlib.Core.List.{List, [], _∷_}
+use mathlib.Core.Option.{Option, none, some}
+use Prim.Native.Nat.{ℕ, zero, suc, _+_, _-_, _≤_, _<_}
+use native.Mathlib.Omega.{arith}
+use lib.Dec.{T, eqb}
+use lib.ListN.{length, getD, replicate, length-append}
+use Rattle.dataflow.specs.Lists.{pick}
+use Rattle.operands.specs.Choice as choice
+use Rattle.operands.specs.Places.{Place, one, optional, rest, absent, gathered}
+use Rattle.operands.specs.Patterns.{S, Sopt, roleAt}
+use Rattle.operands.specs.Variants.{variants, jumpTargets}
+use Rattle.operands.specs.Operands.{bySource, singlePlace, placesFrom, inputsOf, targetsOf}
+use Rattle.operands.specs.Instructions.{Readable, valuesOf, nth, valueOf, slotIn}
+use Rattle.operands.specs.declared.slots.Slot.{Slot}
+use Rattle.operands.specs.declared.instruction.Instruction.{Instruction}
+use Rattle.operands.specs.declared.instruction.Value.the-variants as values
+use Rattle.operands.specs.declared.instruction.SlotOperand.{SlotOperand}
+use Rattle.operands.specs.declared.instruction.SlotOperand.the-variants as slots
+use Rattle.operands.proofs.Table.{at}
+use Rattle.operands.proofs.InstructionLaws.{view-count}
+use Rattle.operands.proofs.PlaceLaws.{gathered-append}
+use Rattle.instructions.specs.Sets.{AllBelow}
+use Rattle.script.specs.Script.{listOf}
+
+-- ---- at most two targets
+
+-- at most one place, of one field
+onePlace : List Place → Bool
+onePlace [] = true
+onePlace (one i ∷ []) = true
+onePlace (one i ∷ p ∷ ps) = false
+onePlace (optional i ∷ ps) = false
+onePlace (rest i ∷ ps) = false
+
+-- at most two places, each of one field
+two : List Place → Bool
+two [] = true
+two (one i ∷ ps) = onePlace ps
+two (optional i ∷ ps) = false
+two (rest i ∷ ps) = false
+
+-- and so at most two values
+two-gathered : (ps : List Place) (v : List ℕ) → T (two ps) → length (gathered ps v) ≤ 2
+unfolding gathered two onePlace
+two-gathered [] v t = omega arith
+two-gathered (one i ∷ []) v t = omega arith
+two-gathered (one i ∷ one j ∷ []) v t = omega arith
+two-gathered (one i ∷ one j ∷ p ∷ ps) v t = absurd t
+two-gathered (one i ∷ optional j ∷ ps) v t = absurd t
+two-gathered (one i ∷ rest j ∷ ps) v t = absurd t
+two-gathered (optional i ∷ ps) v t = absurd t
+two-gathered (rest i ∷ ps) v t = absurd t
+
+-- the computed test, at each kind
+unfoldable fewTargets : ℕ → ℕ → Bool
+fewTargets k z = two (bySource (k + 1) .targets)
+
+all-few : (k : ℕ) → k < 41 → T (fewTargets k (getD (replicate 41 0) k 0))
+unfolding fewTargets bySource variants jumpTargets two onePlace
+all-few k h = at fewTargets (replicate 41 0) tt k h
+
+-- an instruction names at most two targets
+pub targets-few : (k : ℕ) (v : List ℕ) → 1 ≤ k → k ≤ 41 → length (targetsOf k v) ≤ 2
+unfolding fewTargets targetsOf
+targets-few k v l h =
+    let q : k - 1 + 1 ≡ k = omega arith in
+    let t : T (two (bySource k .targets)) = subst (λ (n : ℕ). T (two (bySource n .targets))) q (all-few (k - 1) (omega arith)) in
+    two-gathered (bySource k .targets) v t
+
+-- ---- few inputs
+
+-- a single field gives at most one operand
+single-few : (a b role j : ℕ) (v : List ℕ) → length (gathered (singlePlace a b role j) v) ≤ 1
+unfolding gathered
+single-few a b role j v = go (eqb role a) (eqb role b) (eqb (getD v j absent) absent)
+  where
+    go : (p q r : Bool)
+        → length (gathered (choice.pick p (one j ∷ []) (choice.pick q (optional j ∷ []) [])) v) ≤ 1
+    go true q r = omega arith
+    go false true r = present (eqb (getD v j absent) absent)
+      where
+        present : (t : Bool) → length (choice.pick t [] (getD v j absent ∷ [])) ≤ 1
+        present true = omega arith
+        present false = omega arith
+    go false false r = omega arith
+
+-- and n fields at most n
+places-few : (a b k j n : ℕ) (v : List ℕ) → length (gathered (placesFrom a b k j n) v) ≤ n
+unfolding placesFrom gathered
+places-few a b k j zero v = omega arith
+places-few a b k j (suc n) v =
+    let e = ap length (gathered-append (singlePlace a b (roleAt k j) j) (placesFrom a b k (j + 1) n) v)
+    ∙ length-append (gathered (singlePlace a b (roleAt k j) j) v) (gathered (placesFrom a b k (j + 1) n) v) in
+    omega (arith, e, single-few a b (roleAt k j) j v, places-few a b k (j + 1) n v)
+
+-- as many inputs as fields and four more, at most
+pub inputs-few : (s : List ℕ) (i : Instruction) → Readable s i → length (inputsOf (i .pattern .kind) (valuesOf s i)) ≤ i .fields + 4
+inputs-few s i r = omega (arith, view-count s i r, places-few S Sopt (i .pattern .kind) 0 4 (valuesOf s i))
+
+-- ---- the slot that is read
+
+nth-there : (l : List ℕ) (k : ℕ) → k < length l → nth l k ≡ values.Is (getD l k 0)
+unfolding nth
+nth-there [] k h = absurd (omega arith)
+nth-there (x ∷ l) zero h = refl
+nth-there (x ∷ l) (suc k) h = nth-there l k (omega arith)
+
+-- the k-th input, as it is read
+module _ (o : SlotOperand) (l : List ℕ) (k : ℕ) (e : slotIn o ≡ nth l k) (h : k < length l) where
+  pub slot-there : (t : Slot) → o ≡ slots.Is t → t .0 ≡ getD l k 0
+  slot-there t q =
+      let f : values.Is (t .0) ≡ values.Is (getD l k 0) = ap slotIn (sym q) ∙ e ∙ nth-there l k h in
+      cc
+
+  pub slot-missing : o ≡ slots.Absent → ⊥
+  slot-missing q =
+      let f : values.Absent ≡ values.Is (getD l k 0) = ap slotIn (sym q) ∙ e ∙ nth-there l k h in
+      let z : _≡_ {A = ℕ} 0 1 = cc in omega arith
+
+-- the output, as it is read
+module _ (o : SlotOperand) (v : Option ℕ) (e : slotIn o ≡ valueOf v) where
+  pub output-there : (t : Slot) → o ≡ slots.Is t → listOf v ≡ t .0 ∷ []
+  output-there t q = go v (ap slotIn (sym q) ∙ e)
+    where
+      go : (w : Option ℕ) → values.Is (t .0) ≡ valueOf w → listOf w ≡ t .0 ∷ []
+      go (some x) f = let g : x ≡ t .0 = cc in ap (λ (y : ℕ). y ∷ []) g
+      go none f = let z : _≡_ {A = ℕ} 0 1 = cc in absurd (omega arith)
+
+  pub output-missing : o ≡ slots.Absent → listOf v ≡ []
+  output-missing q = go v (ap slotIn (sym q) ∙ e)
+    where
+      go : (w : Option ℕ) → values.Absent ≡ valueOf w → listOf w ≡ []
+      go (some x) f = let z : _≡_ {A = ℕ} 0 1 = cc in absurd (omega arith)
+      go none f = refl
+
+-- the only number of a list of numbers below n
+pub below-first : (n x : ℕ) (l : List ℕ) → l ≡ x ∷ [] → AllBelow n l → x < n
+below-first n x l e b = let c = subst (AllBelow n) e b in c .0

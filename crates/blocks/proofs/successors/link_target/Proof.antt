@@ -1,0 +1,73 @@
+-- `blocks::successors::link_target` meets its contract. Assumes nothing.
+use mathlib.Core.Path.{ap, _∙_}
+use Prim.Native.Nat.{ℕ}
+use native.Mathlib.Omega.{arith}
+use denote.Ref.{now}
+use borrow.Author.Needs.{needs}
+use Rattle.memory.specs.Cells.{word, store}
+use Rattle.memory.specs.Names.{blockOfCell, successorCell}
+use Rattle.memory.specs.Scratch.{scratch}
+use Rattle.operands.specs.Instructions.{valuesOf}
+use Rattle.operands.specs.Operands.{targetsOf}
+use Rattle.leaders.proofs.MarkLaws.{target-there, target-missing, below-at}
+use Rattle.blocks.proofs.successors.link_target.Statement.{statement}
+use Rattle.blocks.proofs.successors.link_target.Tie as tie
+
+target-requires : tie.Need-target-requires
+target-requires c κs = search needs
+
+enum-known-t : tie.Need-enum-known-t
+enum-known-t c = search needs
+
+enum-told : tie.Need-enum-told
+enum-told c = search needs
+
+returns : tie.Need-returns
+returns c =
+    let pre = c .before .before .before .before .before .pre in
+    let target = c .before .before .target in
+    let told = c .enum-told in
+    absurd (target-missing _ _ _ (target .ensures) (pre .4) (told .given .1))
+
+index-requires : tie.Need-index-requires
+index-requires c κs = search needs
+
+link-requires : tie.Need-link-requires
+link-requires c κs =
+    let args = c .before .before .before .before .before .before .before .before .args in
+    let pre = c .before .before .before .before .before .before .before .before .pre in
+    let index = c .index in
+    let target = c .before .before .before .before .before .target in
+    let target-read = c .before .before .before .t in
+    let ts = targetsOf (args .i .pattern .kind) (valuesOf (now (args .sheet)) (args .i)) in
+    let e = index .ensures ∙ target-there _ ts (args .k) (target .ensures) (pre .4) _ (target-read .given .1) in
+    (pre .1, pre .2, omega (arith, e, below-at (args .y .instructions) ts (args .k) (pre .3) (pre .4)))
+
+same-length : tie.Need-same-length
+same-length c = search needs
+
+returns-2 : tie.Need-returns-2
+returns-2 c =
+    let args = c .before .before .before .before .before .before .before .before .before .before .before .args in
+    let pre = c .before .before .before .before .before .before .before .before .before .before .before .pre in
+    let index = c .before .before .before .index in
+    let target = c .before .before .before .before .before .before .before .before .target in
+    let target-read = c .before .before .before .before .before .before .t in
+    let link = c .before .before .link in
+    let ts = targetsOf (args .i .pattern .kind) (valuesOf (now (args .sheet)) (args .i)) in
+    let e = index .ensures ∙ target-there _ ts (args .k) (target .ensures) (pre .4) _ (target-read .given .1) in
+    let m = scratch (args .y) (now (args .s)) in
+    link .ensures ∙ ap (λ (j : ℕ). store m successorCell (args .edge) (word m blockOfCell j)) e
+
+pub link-target-spec : {M : Type 1} → statement M
+link-target-spec =
+    tie.close
+    (tie.spec
+    target-requires
+    enum-known-t
+    enum-told
+    returns
+    index-requires
+    link-requires
+    same-length
+    returns-2)

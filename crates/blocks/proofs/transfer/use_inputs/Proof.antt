@@ -1,0 +1,80 @@
+-- `blocks::transfer::use_inputs` meets its contract. Assumes nothing.
+use mathlib.Core.Path.{_≡_, refl, sym, subst, _∙_}
+use Prim.Native.Nat.{ℕ, _-_, _≤_}
+use native.Mathlib.Omega.{arith}
+use denote.Ref.{now}
+use lib.ListN.{length, drop}
+use borrow.Author.Needs.{needs}
+use Rattle.memory.specs.Scratch.{scratch, Room}
+use Rattle.operands.specs.Instructions.{valuesOf}
+use Rattle.operands.specs.Operands.{inputsOf}
+use Rattle.blocks.proofs.UseLaws.{usedAt, used-more, used-all}
+use Rattle.memory.proofs.ScratchLaws.{scratch-length}
+use Rattle.blocks.proofs.transfer.use_inputs.Statement.{statement}
+use Rattle.blocks.proofs.transfer.use_inputs.Tie as tie
+
+abbrev Inv-loop : tie.InvT-loop
+Inv-loop sheet s₀ y block i n k₀ s k =
+    (k ≤ n) × (length s ≡ length s₀) × (usedAt block (drop k (inputsOf (i .pattern .kind) (valuesOf sheet i))) (scratch y s) ≡ usedAt block
+    (inputsOf (i .pattern .kind) (valuesOf sheet i)) (scratch y s₀))
+
+abbrev μ-loop : tie.MeasureT-loop
+μ-loop sheet s₀ y block i n k₀ s k = n - k
+
+loop-holds : tie.Need-loop-holds Inv-loop μ-loop
+loop-holds c =
+    (omega arith, refl, refl)
+
+use-input-requires : tie.Need-use-input-requires Inv-loop μ-loop
+use-input-requires c κs =
+    let args = c .before .before .before .before .before .args in
+    let pre = c .before .before .before .before .before .pre in
+    let loop = c .before .before .loop in
+    let test = c .before .loop-test in
+    (pre .0, subst (λ (n : ℕ). Room (args .y) n) (sym (loop .inv .1)) (pre .1), pre .2, pre .3, omega (arith, pre .4, test .taken))
+
+add-k : tie.Need-add-k Inv-loop μ-loop
+add-k c = search needs
+
+loop-less : tie.Need-loop-less Inv-loop μ-loop
+loop-less c = search needs
+
+loop-again : tie.Need-loop-again Inv-loop μ-loop
+loop-again c =
+    let args = c .before .before .before .before .before .before .before .before .args in
+    let pre = c .before .before .before .before .before .before .before .before .pre in
+    let loop = c .before .before .before .before .before .loop in
+    let test = c .before .before .before .before .loop-test in
+    let use-input = c .before .before .use-input in (
+      omega arith,
+      search needs,
+      used-more (args .block) (inputsOf (args .i .pattern .kind) (valuesOf (now (args .sheet)) (args .i)))
+          (scratch (args .y) (loop .s)) _ (loop .k) (omega (arith, pre .4, test .taken)) (omega (arith, scratch-length (args .y) (loop .s), pre .2))
+          (use-input .ensures) ∙ loop .inv .2,
+    )
+
+same-length : tie.Need-same-length Inv-loop μ-loop
+same-length c = search needs
+
+returns : tie.Need-returns Inv-loop μ-loop
+returns c =
+    let args = c .before .before .before .before .args in
+    let pre = c .before .before .before .before .pre in
+    let loop = c .before .loop in
+    let test = c .loop-test in
+    sym (used-all (args .block) (inputsOf (args .i .pattern .kind) (valuesOf (now (args .sheet)) (args .i))) (scratch (args .y) (loop .s))
+    (loop .k) (omega (arith, pre .4, test .left))) ∙ loop .inv .2
+
+pub use-inputs-spec : {M : Type 1} → statement M
+use-inputs-spec =
+    tie.close
+    (tie.spec
+    Inv-loop
+    μ-loop
+    loop-holds
+    use-input-requires
+    add-k
+    loop-less
+    loop-again
+    same-length
+    returns)

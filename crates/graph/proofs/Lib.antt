@@ -1,0 +1,3 @@
+-- Laws of the stages.
+pub mod HoldingLaws
+pub mod GraphLaws

@@ -1,0 +1,2 @@
+-- The graph of a script in both buffers.
+pub mod Graph

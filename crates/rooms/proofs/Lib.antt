@@ -1,0 +1,2 @@
+-- Laws of the rooms.
+pub mod RoomLaws

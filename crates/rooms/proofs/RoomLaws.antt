@@ -1,0 +1,186 @@
+-- 11 and 10 in their order, and what is known where neither is due. Assumes nothing.
+use mathlib.Core.Path.{_≡_, refl, sym, ap, ap₂, subst, _∙_}
+use mathlib.Core.Bool.{Bool, true, false, _||_, true≢false, false≢true}
+use mathlib.Core.List.{List, [], _∷_}
+use Prim.Native.Nat.{ℕ, zero, suc, _+_, _*_, _/_, _≤_, _<_}
+use native.Mathlib.Omega.{arith}
+use lib.Dec.{ltb}
+use lib.ListN.{length, replicate}
+use borrow.Author.Tests.{lt-ltb, le-ltb, ltb-false}
+use Rattle.dataflow.specs.Lists.{pick}
+use Rattle.dataflow.specs.Charges.{leaderCharges}
+use Rattle.dataflow.specs.Results.{blockCount}
+use Rattle.dataflow.proofs.Bools.{or-no-left, or-no-right}
+use Rattle.budget.specs.declared.FlowBudget.{FlowBudget}
+use Rattle.budget.specs.declared.Limits.{Limits}
+use Rattle.budget.specs.declared.Charged.{Charged}
+use Rattle.budget.specs.declared.Charged.the-variants as charging
+use Rattle.budget.specs.Budget.{charged, budgetOf, stateBytes, andCharged}
+use Rattle.budget.proofs.BudgetLaws.{charged-cons}
+use Rattle.format.specs.declared.refusal.Refusal.the-variants.{NoRoom, StateLimit, WorkLimit}
+use Rattle.memory.specs.Cells.{Mem, cell, word}
+use Rattle.memory.specs.Names.{blockOfCell}
+use Rattle.memory.specs.declared.layout.Layout.{Layout}
+use Rattle.memory.specs.Scratch.{scratch, scratchWords, Room}
+use Rattle.memory.specs.Sets.{setsWords, SetsRoom}
+use Rattle.sheet.specs.declared.script.Script.{Script}
+use Rattle.sheet.specs.Decode.{partsOf}
+use Rattle.instructions.specs.Sound.{Sound}
+use Rattle.script.specs.Script.{flowCode}
+use Rattle.script.proofs.ScriptLaws.{code-length}
+use Rattle.leaders.specs.Index.{Indexed, Fits}
+use Rattle.leaders.specs.Leaders.{marking, Led, Leads}
+use Rattle.leaders.specs.Numbers.{marked, Numbered}
+use Rattle.leaders.proofs.BlockLaws.{blocks-are}
+use Rattle.leaders.proofs.IndexLaws.{indexed, indexed-grown, few-blocks, first-marked}
+use Rattle.rooms.specs.declared.Lent.{Lent}
+use Rattle.rooms.specs.declared.Staged.{Staged}
+use Rattle.rooms.specs.declared.Staged.the-variants.{Ok, Refused}
+use Rattle.rooms.specs.Rooms.{layoutOf, shortOf, roomsOf, ifMet, Indexes, Counted, Measured}
+
+module _ (l : Limits) (y : Layout) (n : ℕ) (lent : Lent) (b : FlowBudget) where
+  -- 11 is due
+  pub state-due : l .state < stateBytes (y .blocks) (y .words) → Refused StateLimit b ≡ roomsOf l y n lent b
+  unfolding roomsOf
+  state-due h = rw (lt-ltb (l .state) (stateBytes (y .blocks) (y .words)) h) refl
+
+  module _ (h : stateBytes (y .blocks) (y .words) ≤ l .state) where
+    -- 10 is due
+    pub room-due : shortOf y n lent ≡ true → Refused NoRoom b ≡ roomsOf l y n lent b
+    unfolding roomsOf
+    room-due e = rw (le-ltb (l .state) (stateBytes (y .blocks) (y .words)) h, e) refl
+
+    -- neither is
+    pub room-there : shortOf y n lent ≡ false → Ok y b ≡ roomsOf l y n lent b
+    unfolding roomsOf
+    room-there e = rw (le-ltb (l .state) (stateBytes (y .blocks) (y .words)) h, e) refl
+
+  -- where neither is due, the layout is the one asked for and no buffer is short
+  pub rooms-yes : (y′ : Layout) (b′ : FlowBudget) → roomsOf l y n lent b ≡ Ok y′ b′ → (y ≡ y′) × (shortOf y n lent ≡ false)
+  unfolding roomsOf
+  rooms-yes y′ b′ e = go (ltb (l .state) (stateBytes (y .blocks) (y .words))) (shortOf y n lent) refl e
+    where
+      go : (t u : Bool) → shortOf y n lent ≡ u → pick t (Refused StateLimit b) (pick u (Refused NoRoom b) (Ok y b)) ≡ Ok y′ b′
+          → (y ≡ y′) × (shortOf y n lent ≡ false)
+      go true u q e = let z : _≡_ {A = ℕ} 0 1 = cc in absurd (omega arith)
+      go false true q e = let z : _≡_ {A = ℕ} 0 1 = cc in absurd (omega arith)
+      go false false q e = (cc, q)
+
+-- buffers that are not short have room
+module _ (s : List ℕ) (x : Script) (h : Sound s x) (n : ℕ) (lent : Lent) (blocks : ℕ) (is : blocks ≡ blockCount (flowCode (partsOf s))) where
+  few : blocks ≤ x .count
+  few = omega (arith, few-blocks s x h)
+
+  pub layout-fits : Fits s x (layoutOf x blocks)
+  layout-fits = record { instructions = refl; blocks = is; few-blocks = few; slots = omega arith }
+
+  -- the sizes of a sheet that passed
+  pub small : (layoutOf x blocks .instructions ≤ 65536) × (layoutOf x blocks .blocks ≤ 65536) × (layoutOf x blocks .words ≤ 1024)
+      × (layoutOf x blocks .awaits ≤ 65536)
+  small = (h .few-code, omega (arith, few, h .few-code), omega (arith, h .few-slots), omega (arith, h .few-awaits, h .few-code))
+
+  module _ (e : shortOf (layoutOf x blocks) n lent ≡ false) where
+    abbrev no-scratch : Bool
+    no-scratch = ltb n (scratchWords (layoutOf x blocks))
+
+    abbrev no-sets : Bool
+    no-sets = ltb (lent .sets) (setsWords (layoutOf x blocks))
+
+    abbrev no-records : Bool
+    no-records = ltb (lent .records) blocks
+
+    scratch-long : scratchWords (layoutOf x blocks) ≤ n
+    scratch-long = ltb-false n (scratchWords (layoutOf x blocks)) (or-no-left no-scratch no-sets (or-no-left (no-scratch || no-sets) no-records e))
+
+    sets-long : setsWords (layoutOf x blocks) ≤ lent .sets
+    sets-long = ltb-false (lent .sets) (setsWords (layoutOf x blocks)) (or-no-right no-scratch no-sets (or-no-left (no-scratch || no-sets) no-records e))
+
+    records-long : blocks ≤ lent .records
+    records-long = ltb-false (lent .records) blocks (or-no-right (no-scratch || no-sets) no-records e)
+
+    pub has-room : Room (layoutOf x blocks) n
+    has-room = record { instructions = small .0; blocks = small .1; words = small .2; fits = scratch-long }
+
+    pub has-sets : SetsRoom (layoutOf x blocks) (lent .sets)
+    has-sets = record { blocks = small .1; words = small .2; awaits = small .3; fits = sets-long }
+
+    pub indexes-of : (w′ : List ℕ) → length w′ ≡ n → Indexed s x (scratch (layoutOf x blocks) w′) → Indexes s x lent w′ (layoutOf x blocks)
+    indexes-of w′ q g = record {
+      fits = layout-fits;
+      awaits = refl;
+      room = subst (Room (layoutOf x blocks)) (sym q) has-room;
+      sets-room = has-sets;
+      records = records-long;
+      index = g;
+    }
+
+-- scratch has room for the marks
+pub marking-room : (s : List ℕ) (x : Script) → Sound s x → (n : ℕ) → 4 * x .count ≤ n → Room (marking x) n
+marking-room s x h n q = record { instructions = h .few-code; blocks = omega arith; words = omega arith; fits = omega arith }
+
+-- the charges of the first loop: one for each instruction
+pub first-charges : (s : List ℕ) (x : Script) → Sound s x → (l : Limits) (b : FlowBudget)
+    → charged l b (replicate (x .count) 1) ≡ charged l b (leaderCharges (flowCode (partsOf s)))
+first-charges s x h l b = ap (λ (k : ℕ). charged l b (replicate k 1)) (sym (code-length s x h))
+
+module _ (s : List ℕ) (x : Script) (l : Limits) (lent : Lent) (b : FlowBudget) (w w′ : List ℕ) where
+  -- a charge of the first loop crossed the limit
+  pub counted-over : (c : Charged) (z : FlowBudget) (r : Staged) → c ≡ charged l b (leaderCharges (flowCode (partsOf s))) → c ≡ charging.Over z
+      → r ≡ Refused WorkLimit (budgetOf c) → Counted s x l lent b w w′ r
+  counted-over c z r ec eo er = record {
+    answer = er ∙ ap (λ (d : Charged). Refused WorkLimit (budgetOf d)) eo ∙ ap (λ (d : Charged). ifMet d (roomsOf l (layoutOf x (blockCount (flowCode (partsOf s)))) (length w) lent)) (sym eo ∙ ec);
+    indexes = λ y left q. let o : _≡_ {A = ℕ} 0 1 = cc in absurd (omega arith);
+  }
+
+  -- all were met: the blocks are numbered, and the rooms decide
+  pub counted-on : Sound s x → (c : Charged) (left : FlowBudget) (m m₁ : Mem) (blocks : ℕ) (r : Staged) → Leads s x l b m m₁ c
+      → c ≡ charging.Ok left → Numbered (x .count) m₁ (scratch (marking x) w′) blocks → length w′ ≡ length w → (y : Layout) (n : ℕ)
+      → y ≡ layoutOf x blocks → n ≡ length w → r ≡ roomsOf l y n lent left → Counted s x l lent b w w′ r
+  counted-on h c left m m₁ blocks r leads ec g q y₀ n ey en e₀ = record {
+    answer = er ∙ ap (λ (k : ℕ). roomsOf l (layoutOf x k) (length w) lent left) is
+        ∙ ap (λ (d : Charged). ifMet d (roomsOf l (layoutOf x (blockCount (flowCode (partsOf s)))) (length w) lent)) (sym ec ∙ charges);
+    indexes = λ y left′ e. yes-of y left′ (rooms-yes l (layoutOf x blocks) (length w) lent left y left′ (sym er ∙ e));
+  }
+    where
+      er : r ≡ roomsOf l (layoutOf x blocks) (length w) lent left
+      er = e₀ ∙ ap₂ (λ (z : Layout) (k : ℕ). roomsOf l z k lent left) ey en
+
+      led : Led s x m₁
+      led = leads .led left ec
+
+      is : blocks ≡ blockCount (flowCode (partsOf s))
+      is = blocks-are s x h m₁ led (scratch (marking x) w′) blocks g
+
+      charges : c ≡ charged l b (leaderCharges (flowCode (partsOf s)))
+      charges = leads .charges ∙ first-charges s x h l b
+
+      yes-of : (y : Layout) (left′ : FlowBudget) → (layoutOf x blocks ≡ y) × (shortOf (layoutOf x blocks) (length w) lent ≡ false)
+          → Indexes s x lent w′ y
+      yes-of y left′ (e, f) =
+          subst (Indexes s x lent w′) e
+          (indexes-of s x h (length w) lent blocks is f w′ q
+          (indexed-grown s x (marking x) (layoutOf x blocks) w′ refl (indexed s x h m₁ (scratch (marking x) w′) led blocks g)))
+
+  -- the charge of 0 crossed the limit
+  pub measured-over : (c : Charged) (z : FlowBudget) (r : Staged) → c ≡ charged l b (0 ∷ []) → c ≡ charging.Over z
+      → r ≡ Refused WorkLimit (budgetOf c) → Measured s x l lent b w w′ r
+  measured-over c z r ec eo er = record {
+    answer = er ∙ ap (λ (d : Charged). Refused WorkLimit (budgetOf d)) eo
+        ∙ ap (λ (d : Charged). ifMet (andCharged d (λ b′. charged l b′ (leaderCharges (flowCode (partsOf s)))))
+        (roomsOf l (layoutOf x (blockCount (flowCode (partsOf s)))) (length w) lent)) (sym eo ∙ ec)
+        ∙ ap (λ (d : Charged). ifMet d (roomsOf l (layoutOf x (blockCount (flowCode (partsOf s)))) (length w) lent))
+        (sym (charged-cons l b 0 (leaderCharges (flowCode (partsOf s)))));
+    indexes = λ y left q. let o : _≡_ {A = ℕ} 0 1 = cc in absurd (omega arith);
+  }
+
+-- it was met
+pub measured-on : (s : List ℕ) (x : Script) (l : Limits) (lent : Lent) (b left : FlowBudget) (w w′ : List ℕ) (c : Charged) (r : Staged)
+    → c ≡ charged l b (0 ∷ []) → c ≡ charging.Ok left → Counted s x l lent left w w′ r → Measured s x l lent b w w′ r
+measured-on s x l lent b left w w′ c r ec eo g = record {
+  answer = g .answer
+      ∙ ap (λ (d : Charged). ifMet (andCharged d (λ b′. charged l b′ (leaderCharges (flowCode (partsOf s)))))
+      (roomsOf l (layoutOf x (blockCount (flowCode (partsOf s)))) (length w) lent)) (sym eo ∙ ec)
+      ∙ ap (λ (d : Charged). ifMet d (roomsOf l (layoutOf x (blockCount (flowCode (partsOf s)))) (length w) lent))
+      (sym (charged-cons l b 0 (leaderCharges (flowCode (partsOf s)))));
+  indexes = g .indexes;
+}
