@@ -1,0 +1,258 @@
+-- The three stages of `fixed_points` put together: what stays between them, and the answer for each way to stop. Assumes nothing.
+use mathlib.Core.Path.{_≡_, sym, ap, _∙_}
+use mathlib.Core.Bool.{Bool, true, false, false≢true}
+use mathlib.Core.List.{List, _++_, reverse}
+use Prim.Native.Nat.{ℕ, _+_, _*_, _^_, _≤_, _<_}
+use native.Mathlib.Omega.{arith}
+use lib.ListN.{length, getD, take}
+use Rattle.bitset.specs.Sets.{member}
+use Rattle.dataflow.specs.Analyses.{initialization, liveness}
+use Rattle.dataflow.specs.Code.{Instruction, blockSuccessors}
+use Rattle.dataflow.specs.Charges.{postorderCharges, propagateCharges}
+use Rattle.budget.specs.declared.FlowBudget.{FlowBudget}
+use Rattle.budget.specs.declared.Limits.{Limits}
+use Rattle.budget.specs.declared.Charged.{Charged}
+use Rattle.budget.specs.declared.Charged.the-variants.{Ok, Over}
+use Rattle.budget.specs.Budget.{charged, andCharged}
+use Rattle.budget.proofs.BudgetLaws.{charged-append}
+use Rattle.memory.specs.Cells.{Mem, cell}
+use Rattle.memory.specs.Names.{reachableCell, successorCountCell, firstEdgeCell, predecessorCountCell, orderCell}
+use Rattle.memory.specs.Names.{successorCell, nextEdgeCell, usesRow, definesRow, parametersRow, initializedRow, liveRow}
+use Rattle.memory.specs.Scratch.{scratchWidths, scratch, Room}
+use Rattle.memory.specs.declared.layout.Layout.{Layout}
+use Rattle.memory.proofs.CellLaws.{Sized}
+use Rattle.memory.proofs.ScratchLaws.{scratch-sized, row-words}
+use Rattle.edges.specs.Edges.{Held}
+use Rattle.edges.proofs.EdgeLaws.{same-word, holds-kept}
+use Rattle.edges.proofs.ResultLaws.{chained-kept}
+use Rattle.order.specs.declared.Ordered.{Ordered}
+use Rattle.order.specs.declared.Ordered.the-variants as ordering
+use Rattle.order.specs.Postorder.{searchedFrom, searchCharges, chargedIn, Searched}
+use Rattle.solver.specs.declared.direction.Direction.{Direction}
+use Rattle.solver.specs.declared.direction.Direction.the-variants.{Initialization, Liveness}
+use Rattle.solver.specs.Transfer.{runningRow}
+use Rattle.propagate.specs.Rounds.{Seedable, Propagated}
+use Rattle.edges.specs.Flow.{Flows}
+use Rattle.fixed_points.specs.FixedPoints.{roundsCharges, Fixed}
+use Rattle.fixed_points.specs.Stages.{Flowing, InOrder, Ready, RoundsDone}
+use Rattle.fixed_points.proofs.CodeGraph.{some-block}
+use Rattle.fixed_points.proofs.Bits.{RowsOfWords}
+use Rattle.fixed_points.proofs.RoundLaws.{FreshIn, fresh-in, round-charges, round-sets}
+use Rattle.fixed_points.proofs.Seeds.{seedable}
+
+-- ---- what stays
+
+-- the cells that hold the graph and the blocks' sets stay
+pub record Stays (y : Layout) (m m′ : Mem) : Type 0 where
+  pub low : (k : ℕ) → k < 10 → cell m′ k ≡ cell m k
+  pub edges : (k : ℕ) → 16 ≤ k → k < 18 + 4 * y .blocks → cell m′ k ≡ cell m k
+  pub rows : (k : ℕ) → 20 + 4 * y .blocks ≤ k → cell m′ k ≡ cell m k
+
+-- the search changes none of them
+pub stays-searched : {y : Layout} {l : Limits} {b : FlowBudget} {m m′ : Mem} {o : Ordered} → Searched y l b m m′ o → Stays y m m′
+stays-searched p = record {
+  low = λ k lt. p .others k (λ e. omega arith) (λ e. omega arith) (λ e. omega arith) (λ e. omega arith);
+  edges = λ k lo hi. p .others k (λ e. omega arith) (λ e. omega arith) (λ e. omega arith) (λ e. omega arith);
+  rows = λ k lo. p .others k (λ e. omega arith) (λ e. omega arith) (λ e. omega arith) (λ e. omega arith);
+}
+
+-- where a round computes
+running-at : (d : Direction) (y : Layout) → (18 + 4 * y .blocks ≤ runningRow d y) × (runningRow d y < 20 + 4 * y .blocks)
+running-at Initialization y = (omega arith, omega arith)
+running-at Liveness y = (omega arith, omega arith)
+
+-- a round changes none of them either
+pub stays-round : {d : Direction} {y : Layout} {l : Limits} {b : FlowBudget} {n : ℕ} {m m′ t t′ : Mem} {r : Charged} {left : FlowBudget}
+    → Propagated d y l b n m m′ t t′ r → r ≡ Ok left → Stays y m m′
+stays-round {d} {y} {left = left} p e = record {
+  low = λ k lt. p .others left e k (λ q. omega arith) (λ q. omega arith) (λ q. omega (arith, running-at d y .0));
+  edges = λ k lo hi. p .others left e k (λ q. omega arith) (λ q. omega arith) (λ q. omega (arith, running-at d y .0));
+  rows = λ k lo. p .others left e k (λ q. omega arith) (λ q. omega arith) (λ q. omega (arith, running-at d y .1));
+}
+
+-- so the words hold what they held
+pub flows-stay : {code : List Instruction} {parameter : ℕ → Bool} {y : Layout} {m m′ : Mem} → Stays y m m′ → Flows code parameter y m
+    → Flows code parameter y m′
+flows-stay {y = y} {m = m} {m′ = m′} h f = record {
+  blocks = f .blocks;
+  holds = holds-kept (h .low successorCountCell (omega arith)) (h .edges successorCell (omega arith) (omega arith)) (f .holds);
+  chained = chained-kept m m′ (h .low firstEdgeCell (omega arith)) (h .low predecessorCountCell (omega arith))
+      (h .edges nextEdgeCell (omega arith) (omega arith)) (f .chained);
+  reached = λ c lt. same-word m m′ reachableCell c (h .low reachableCell (omega arith)) ∙ f .reached c lt;
+  uses-are = λ c lt i. ap (λ (ws : List ℕ). member ws i) (h .edges (usesRow c) (omega arith) (omega arith)) ∙ f .uses-are c lt i;
+  defines-are = λ c lt i. ap (λ (ws : List ℕ). member ws i) (h .edges (definesRow c) (omega arith) (omega arith)) ∙ f .defines-are c lt i;
+  parameters-are = λ i. ap (λ (ws : List ℕ). member ws i) (h .rows (parametersRow (y .blocks)) (omega arith)) ∙ f .parameters-are i;
+}
+
+-- the order stays through a round
+pub order-round : {code : List Instruction} {d : Direction} {y : Layout} {l : Limits} {b : FlowBudget} {n : ℕ} {m m′ t t′ : Mem} {r : Charged}
+    {left : FlowBudget} → Propagated d y l b n m m′ t t′ r → r ≡ Ok left → InOrder code n m → InOrder code n m′
+order-round {d = d} {y = y} {n = n} {left = left} p e o = record {
+  order = ap (take n) (p .others left e orderCell (λ q. omega arith) (λ q. omega arith) (λ q. omega (arith, running-at d y .0))) ∙ o .order;
+  len = o .len;
+}
+
+-- the other direction's rows stay
+pub fresh-round : {y : Layout} {l : Limits} {b : FlowBudget} {n : ℕ} {m m′ t t′ : Mem} {r : Charged} {left : FlowBudget}
+    → Propagated Initialization y l b n m m′ t t′ r → r ≡ Ok left → FreshIn Liveness y t → FreshIn Liveness y t′
+fresh-round {left = left} p e h =
+    record { rows = λ c lt. p .other-sets left e (liveRow c) (λ c′ lt′ q. omega arith) ∙ h .rows c lt }
+
+-- backwards too
+pub initialized-round : {y : Layout} {l : Limits} {b : FlowBudget} {n : ℕ} {m m′ t t′ : Mem} {r : Charged} {left : FlowBudget}
+    → Propagated Liveness y l b n m m′ t t′ r → r ≡ Ok left → (c : ℕ) → cell t′ (initializedRow c) ≡ cell t (initializedRow c)
+initialized-round {left = left} p e c = p .other-sets left e (initializedRow c) (λ c′ lt′ q. omega arith)
+
+-- ---- charges
+
+-- a crossed limit is none that was met
+over-not-ok : {x left : FlowBudget} → Over x ≡ Ok left → ⊥
+over-not-ok e = false≢true (ap isOk e)
+  where
+    isOk : Charged → Bool
+    isOk (Ok x) = true
+    isOk (Over x) = false
+
+module _ (l : Limits) (b : FlowBudget) (cs ds : List ℕ) where
+  -- charges that were met, then further ones
+  met-then : {left : FlowBudget} → charged l b cs ≡ Ok left → charged l b (cs ++ ds) ≡ charged l left ds
+  met-then e = charged-append l b cs ds ∙ ap (λ (c : Charged). andCharged c (λ b′. charged l b′ ds)) e
+
+  -- charges that crossed the limit, whatever was to follow
+  over-then : {x : FlowBudget} → charged l b cs ≡ Over x → charged l b (cs ++ ds) ≡ Over x
+  over-then e = charged-append l b cs ds ∙ ap (λ (c : Charged). andCharged c (λ b′. charged l b′ ds)) e
+
+-- ---- after the search
+module _ {code : List Instruction} {parameter : ℕ → Bool} {y : Layout} {l : Limits} {b : FlowBudget} {m m′ : Mem} {o : Ordered}
+    (f : Flows code parameter y m) (p : Searched y l b m m′ o) where
+  -- its charges are those of the code's postorder
+  search-charges : chargedIn o ≡ charged l b (postorderCharges code)
+  search-charges =
+      p .charges (blockSuccessors code) (f .holds) ∙ ap (λ (k : ℕ). charged l b (searchCharges (blockSuccessors code) k)) (f .blocks)
+
+  -- it leaves the code's postorder
+  pub order-searched : {n : ℕ} {left : FlowBudget} → o ≡ ordering.Ok n left → InOrder code n m′
+  order-searched {n} {left} e = record {
+    order = p .order (blockSuccessors code) (f .holds) n left e
+        ∙ ap (λ (k : ℕ). reverse (searchedFrom (blockSuccessors code) k .finished)) (f .blocks);
+    len = p .len (blockSuccessors code) (f .holds) n left e
+        ∙ ap (λ (k : ℕ). length (searchedFrom (blockSuccessors code) k .finished)) (f .blocks);
+  }
+
+-- ---- both rounds
+module _ {y : Layout} {l : Limits} {b : FlowBudget} {n : ℕ} {m m₁ t t₁ : Mem} {c : Charged} (z : Sized (scratchWidths y) m) (w : RowsOfWords y m)
+    (p : Propagated Initialization y l b n m m₁ t t₁ c) where
+  -- the first round crossed the limit
+  pub rounds-over : {x : FlowBudget} → c ≡ Over x → RoundsDone y l b n m m₁ t t₁ c
+  rounds-over {x} e = record {
+    charges = λ code parameter s f o fresh. e ∙ sym (over-then l b (propagateCharges code parameter (y .words) initialization)
+        (propagateCharges code parameter (y .words) liveness) (sym (round-charges s f z w o (fresh-in Initialization fresh) p) ∙ e));
+    sets = λ code parameter s f o fresh left q. absurd (over-not-ok (sym e ∙ q));
+    others = λ left q. absurd (over-not-ok (sym e ∙ q));
+  }
+
+  -- it was met, and the second round's answer is that of both
+  pub rounds-on : {left : FlowBudget} {m′ t′ : Mem} {r : Charged} → c ≡ Ok left → Sized (scratchWidths y) m₁ → RowsOfWords y m₁
+      → Propagated Liveness y l left n m₁ m′ t₁ t′ r → RoundsDone y l b n m m′ t t′ r
+  rounds-on {left} {m′} {t′} {r} e z₁ w₁ q = record {
+    charges = λ code parameter s f o fresh.
+        round-charges s (flows-stay (stays-round p e) f) z₁ w₁ (order-round p e o) (fresh-round p e (fresh-in Liveness fresh)) q
+        ∙ sym (met-then l b (propagateCharges code parameter (y .words) initialization) (propagateCharges code parameter (y .words) liveness)
+        (sym (round-charges s f z w o (fresh-in Initialization fresh) p) ∙ e));
+    sets = λ code parameter s f o fresh last u. record {
+      initialized = λ k i lk li. ap (λ (ws : List ℕ). member ws i) (initialized-round q u k)
+          ∙ round-sets s f z w o (fresh-in Initialization fresh) p left e k i lk li;
+      live = λ k i lk li.
+          round-sets s (flows-stay (stays-round p e) f) z₁ w₁ (order-round p e o) (fresh-round p e (fresh-in Liveness fresh)) q last u k i lk li;
+    };
+    others = λ last u k a d g h. q .others last u k a d h ∙ p .others left e k a d g;
+  }
+
+-- ---- all stages
+module _ {y : Layout} {l : Limits} {b : FlowBudget} {m m₁ t t′ : Mem} {o : Ordered} (p : Searched y l b m m₁ o) where
+  -- the search crossed the limit
+  pub fixed-unordered : {x : FlowBudget} {r : Charged} → o ≡ ordering.Over x → r ≡ chargedIn o → Fixed y l b m m₁ t t′ r
+  fixed-unordered {x} {r} e q = record {
+    charges = λ code parameter s f fresh. over ∙ sym (over-then l b (postorderCharges code) (roundsCharges code parameter (y .words))
+        (sym (search-charges f p) ∙ ap chargedIn e));
+    sets = λ code parameter s f fresh left u. absurd (over-not-ok (sym over ∙ u));
+    others = λ left u. absurd (over-not-ok (sym over ∙ u));
+    edges = λ left u. absurd (over-not-ok (sym over ∙ u));
+    rows = λ left u. absurd (over-not-ok (sym over ∙ u));
+  }
+    where
+      over : r ≡ Over x
+      over = q ∙ ap chargedIn e
+
+  -- it was met, and the answer of both rounds is that of all
+  pub fixed-on : {n : ℕ} {left : FlowBudget} {m′ : Mem} {r : Charged} → o ≡ ordering.Ok n left → RoundsDone y l left n m₁ m′ t t′ r
+      → Fixed y l b m m′ t t′ r
+  fixed-on {n} {left} {m′} {r} e q = record {
+    charges = λ code parameter s f fresh.
+        q .charges code parameter s (flows-stay kept f) (order-searched f p e) fresh
+        ∙ sym (met-then l b (postorderCharges code) (roundsCharges code parameter (y .words)) (sym (search-charges f p) ∙ ap chargedIn e));
+    sets = λ code parameter s f fresh last u. q .sets code parameter s (flows-stay kept f) (order-searched f p e) fresh last u;
+    others = λ last u k lt.
+        q .others last u k (λ v. omega arith) (λ v. omega arith) (λ v. omega arith) (λ v. omega arith) ∙ kept .low k lt;
+    edges = λ last u k lo hi.
+        q .others last u k (λ v. omega arith) (λ v. omega arith) (λ v. omega arith) (λ v. omega arith) ∙ kept .edges k lo hi;
+    rows = λ last u k lo.
+        q .others last u k (λ v. omega arith) (λ v. omega arith) (λ v. omega arith) (λ v. omega arith) ∙ kept .rows k lo;
+  }
+    where
+      kept : Stays y m m₁
+      kept = stays-searched p
+
+-- ---- what the calls require
+
+-- the search: a graph and a block
+pub flowing-held : {y : Layout} {m : Mem} → Flowing y m → Held y m
+flowing-held h = (blockSuccessors (h .0), h .3 .holds)
+
+-- and a block
+pub flowing-some : {y : Layout} {m : Mem} → Flowing y m → 0 < y .blocks
+flowing-some h = some-block (h .2) (h .3)
+
+-- both rounds: the graph and its order
+pub ready-searched : {y : Layout} {l : Limits} {b : FlowBudget} {m m′ : Mem} {o : Ordered} {n : ℕ} {left : FlowBudget} → Flowing y m
+    → Searched y l b m m′ o → o ≡ ordering.Ok n left → Ready y n m′
+ready-searched h p e = (h .0, h .1, h .2, flows-stay (stays-searched p) (h .3), order-searched (h .3) p e)
+
+-- a round: these seed it
+pub ready-seedable : {y : Layout} {n : ℕ} {m : Mem} → Sized (scratchWidths y) m → Ready y n m → Seedable y m n
+ready-seedable z h = seedable (h .2) (h .3) z (h .4)
+
+-- and stay for the next
+pub ready-round : {d : Direction} {y : Layout} {l : Limits} {b : FlowBudget} {n : ℕ} {m m′ t t′ : Mem} {r : Charged} {left : FlowBudget}
+    → Propagated d y l b n m m′ t t′ r → r ≡ Ok left → Ready y n m → Ready y n m′
+ready-round p e h = (h .0, h .1, h .2, flows-stay (stays-round p e) (h .3), order-round p e (h .4))
+
+-- ---- as the code calls them: scratch as lent words
+
+-- the rows of lent scratch are of words
+rows-of-words : {y : Layout} (s : List ℕ) → Room y (length s) → ((i : ℕ) → getD s i 0 < 2 ^ 64) → RowsOfWords y (scratch y s)
+rows-of-words s room fits k r = row-words s room r fits
+
+module _ {y : Layout} (s : List ℕ) (room : Room y (length s)) where
+  -- what `propagate` requires
+  pub seedable-as : {n : ℕ} → Ready y n (scratch y s) → Seedable y (scratch y s) n
+  seedable-as h = ready-seedable (scratch-sized s room) h
+
+  -- and requires again
+  pub seedable-again : {d : Direction} {l : Limits} {b : FlowBudget} {n : ℕ} {m t t′ : Mem} {r : Charged} {left : FlowBudget}
+      → Propagated d y l b n m (scratch y s) t t′ r → r ≡ Ok left → Ready y n m → Seedable y (scratch y s) n
+  seedable-again p e h = ready-seedable (scratch-sized s room) (ready-round p e h)
+
+  module _ (fits : (i : ℕ) → getD s i 0 < 2 ^ 64) where
+    -- the first round crossed the limit
+    pub rounds-over-as : {l : Limits} {b : FlowBudget} {n : ℕ} {m₁ t t₁ : Mem} {c : Charged} {x : FlowBudget}
+        → Propagated Initialization y l b n (scratch y s) m₁ t t₁ c → c ≡ Over x → RoundsDone y l b n (scratch y s) m₁ t t₁ c
+    rounds-over-as p e = rounds-over (scratch-sized s room) (rows-of-words s room fits) p e
+
+    -- it was met, and the second followed
+    pub rounds-on-as : (s₁ : List ℕ) → Room y (length s₁) → ((i : ℕ) → getD s₁ i 0 < 2 ^ 64)
+        → {l : Limits} {b : FlowBudget} {n : ℕ} {m′ t t₁ t′ : Mem} {c r : Charged} {left : FlowBudget}
+        → Propagated Initialization y l b n (scratch y s) (scratch y s₁) t t₁ c → c ≡ Ok left
+        → Propagated Liveness y l left n (scratch y s₁) m′ t₁ t′ r → RoundsDone y l b n (scratch y s) m′ t t′ r
+    rounds-on-as s₁ room₁ fits₁ p e q =
+        rounds-on (scratch-sized s room) (rows-of-words s room fits) p e (scratch-sized s₁ room₁) (rows-of-words s₁ room₁ fits₁) q

@@ -1,0 +1,239 @@
+-- What a round leaves alone, and what it computes from that: edges, neighbors, a block's new row. Assumes nothing.
+use mathlib.Core.Path.{_≡_, refl, sym, ap, ap₂, _∙_, subst}
+use mathlib.Core.Logic.{_≢_}
+use mathlib.Core.List.{List, [], _∷_, map}
+use Prim.Native.Nat.{ℕ, zero, suc, _+_, _*_, _≤_, _<_}
+use native.Mathlib.Omega.{arith}
+use native.Mathlib.Decide.{ℕ-discrete}
+use native.Mathlib.Nat.{zero-add}
+use lib.Dec.{eqb}
+use lib.ListN.{length, getD, set, replicate, length-set, length-map}
+use lib.Seq.{getD-set-same, getD-set-other, ext-getD}
+use Rattle.bitset.specs.Sets.{ones, meet, join, difference}
+use Rattle.dataflow.specs.Lists.{pick}
+use Rattle.dataflow.proofs.Lists.{length-tabulate, getD-tabulate}
+use Rattle.memory.specs.Cells.{Mem, cell, word, storeCell}
+use Rattle.memory.specs.Names.{reachableCell, ringCell, queuedCell, successorCell, successorCountCell, firstEdgeCell, nextEdgeCell}
+use Rattle.memory.specs.Names.{predecessorCountCell, usesRow, definesRow, parametersRow}
+use Rattle.memory.specs.declared.layout.Layout.{Layout}
+use Rattle.memory.proofs.CellLaws.{cell-store-same, cell-store-other}
+use Rattle.edges.specs.Predecessors.{AllBelow}
+use Rattle.solver.specs.declared.direction.Direction.{Direction}
+use Rattle.solver.specs.declared.direction.Direction.the-variants.{Initialization, Liveness}
+use Rattle.solver.specs.declared.direction.Side.{Side}
+use Rattle.solver.specs.declared.direction.Side.the-variants.{Successors, Predecessors}
+use Rattle.solver.specs.Neighbors.{readsOf, countOf, firstOf, nextOf, endOf, edgesFrom, neighborsFrom, neighbors, Connected}
+use Rattle.solver.specs.Transfer.{runningRow, keptRow, entryOf, gatherOne, gatherAll, gathered, transferred, computed}
+use Rattle.propagate.specs.Rounds.{rowsOf, gatherRow, gatherRows, rowSolver}
+
+-- ---- the rows that a round keeps
+
+-- two blocks have two rows
+kept-apart : (d : Direction) (b c : ℕ) → b ≢ c → keptRow d b ≢ keptRow d c
+kept-apart Initialization b c ne e = ne (omega arith)
+kept-apart Liveness b c ne e = ne (omega arith)
+
+-- a block's row is among the rows of the sets buffer
+pub kept-among : (d : Direction) (b n : ℕ) → b < n → keptRow d b < 2 * n
+kept-among Initialization b n lt = omega arith
+kept-among Liveness b n lt = omega arith
+
+module _ (d : Direction) (y : Layout) (t : Mem) where
+  -- a block's row of the table
+  pub rows-at : (b : ℕ) → b < y .blocks → getD (rowsOf d y t) b [] ≡ cell t (keptRow d b)
+  unfolding rowsOf
+  rows-at b lt = getD-tabulate 0 (y .blocks) b (λ c. cell t (keptRow d c)) [] lt ∙ ap (λ (c : ℕ). cell t (keptRow d c)) (zero-add b)
+
+  -- one row a block
+  rows-long : length (rowsOf d y t) ≡ y .blocks
+  unfolding rowsOf
+  rows-long = length-tabulate 0 (y .blocks) (λ c. cell t (keptRow d c))
+
+-- a row stored is a set of the table
+pub rows-set : (d : Direction) (y : Layout) (t : Mem) (c : ℕ) (x : List ℕ) → c < y .blocks → 2 * y .blocks ≤ length t
+    → rowsOf d y (storeCell t (keptRow d c) x) ≡ set (rowsOf d y t) c x
+rows-set d y t c x lt fits =
+    ext-getD [] (rowsOf d y t′) (set (rowsOf d y t) c x) (rows-long d y t′ ∙ sym (length-set (rowsOf d y t) c x ∙ rows-long d y t))
+    (λ i l. at i (omega (arith, rows-long d y t′)) (ℕ-discrete i c))
+  where
+    t′ : Mem
+    t′ = storeCell t (keptRow d c) x
+
+    at : (i : ℕ) → i < y .blocks → Dec (i ≡ c) → getD (rowsOf d y t′) i [] ≡ getD (set (rowsOf d y t) c x) i []
+    at i l (yes e) =
+        ap (λ (j : ℕ). getD (rowsOf d y t′) j []) e ∙ rows-at d y t′ c lt
+        ∙ cell-store-same t (keptRow d c) x (omega (arith, kept-among d c (y .blocks) lt))
+        ∙ sym (ap (λ (j : ℕ). getD (set (rowsOf d y t) c x) j []) e ∙ getD-set-same (rowsOf d y t) c x [] (omega (arith, rows-long d y t)))
+    at i l (no ne) =
+        rows-at d y t′ i l ∙ cell-store-other t (keptRow d c) x (keptRow d i) (kept-apart d i c ne)
+        ∙ sym (getD-set-other (rowsOf d y t) c i x [] ne ∙ rows-at d y t i l)
+
+-- ---- what a round leaves alone of scratch
+
+pub record Fixed (d : Direction) (y : Layout) (m₀ m : Mem) : Type 0 where
+  pub others : (k : ℕ) → (k ≡ ringCell → ⊥) → (k ≡ queuedCell → ⊥) → (k ≡ runningRow d y → ⊥) → cell m k ≡ cell m₀ k
+
+-- the running row is behind the cells of blocks and edges
+running-high : (d : Direction) (y : Layout) → 18 ≤ runningRow d y
+running-high Initialization y = omega arith
+running-high Liveness y = omega arith
+
+-- and is no block's
+running-uses : (d : Direction) (y : Layout) (b : ℕ) → b < y .blocks → usesRow b ≡ runningRow d y → ⊥
+running-uses Initialization y b lt e = omega arith
+running-uses Liveness y b lt e = omega arith
+
+running-defines : (d : Direction) (y : Layout) (b : ℕ) → b < y .blocks → definesRow b ≡ runningRow d y → ⊥
+running-defines Initialization y b lt e = omega arith
+running-defines Liveness y b lt e = omega arith
+
+-- nor the parameters'
+running-parameters : (d : Direction) (y : Layout) → parametersRow (y .blocks) ≡ runningRow d y → ⊥
+running-parameters Initialization y e = omega arith
+running-parameters Liveness y e = omega arith
+
+-- it is among the cells
+pub running-among : (d : Direction) (y : Layout) → runningRow d y < 22 + 4 * y .blocks
+running-among Initialization y = omega arith
+running-among Liveness y = omega arith
+
+-- so it is none of those cells
+pub running-low : (d : Direction) (y : Layout) (k : ℕ) → k < 18 → k ≡ runningRow d y → ⊥
+running-low d y k lt e = omega (arith, running-high d y)
+
+module _ {d : Direction} {y : Layout} {m₀ : Mem} where
+  -- nothing is stored
+  pub fixed-none : Fixed d y m₀ m₀
+  fixed-none = record { others = λ k a b c. refl }
+
+  module _ {m : Mem} (f : Fixed d y m₀ m) where
+    -- what a round may store
+    pub fixed-ring : (ws : List ℕ) → Fixed d y m₀ (storeCell m ringCell ws)
+    fixed-ring ws = record { others = λ k a b c. cell-store-other m ringCell ws k a ∙ f .others k a b c }
+
+    pub fixed-queued : (ws : List ℕ) → Fixed d y m₀ (storeCell m queuedCell ws)
+    fixed-queued ws = record { others = λ k a b c. cell-store-other m queuedCell ws k b ∙ f .others k a b c }
+
+    pub fixed-running : (ws : List ℕ) → Fixed d y m₀ (storeCell m (runningRow d y) ws)
+    fixed-running ws = record { others = λ k a b c. cell-store-other m (runningRow d y) ws k c ∙ f .others k a b c }
+
+    -- a word of a cell that is not the ring's and not the marks'
+    fixed-word : (k i : ℕ) → k < 18 → (k ≡ ringCell → ⊥) → (k ≡ queuedCell → ⊥) → word m k i ≡ word m₀ k i
+    fixed-word k i lt a b = ap (λ (c : List ℕ). getD c i 0) (f .others k a b (running-low d y k lt))
+
+    -- who is reachable
+    pub fixed-reachable : (i : ℕ) → word m reachableCell i ≡ word m₀ reachableCell i
+    fixed-reachable i = fixed-word reachableCell i (omega arith) (λ e. omega arith) (λ e. omega arith)
+
+    -- ---- edges
+    pub fixed-count : (side : Side) (b : ℕ) → countOf side m b ≡ countOf side m₀ b
+    fixed-count Successors b = fixed-word successorCountCell b (omega arith) (λ e. omega arith) (λ e. omega arith)
+    fixed-count Predecessors b = fixed-word predecessorCountCell b (omega arith) (λ e. omega arith) (λ e. omega arith)
+
+    fixed-first : (side : Side) (b : ℕ) → firstOf side m b ≡ firstOf side m₀ b
+    fixed-first Successors b = refl
+    fixed-first Predecessors b = fixed-word firstEdgeCell b (omega arith) (λ e. omega arith) (λ e. omega arith)
+
+    fixed-next : (side : Side) (e : ℕ) → nextOf side m e ≡ nextOf side m₀ e
+    fixed-next Successors e = refl
+    fixed-next Predecessors e = fixed-word nextEdgeCell e (omega arith) (λ q. omega arith) (λ q. omega arith)
+
+    fixed-end : (side : Side) (e : ℕ) → endOf side m e ≡ endOf side m₀ e
+    fixed-end Successors e = fixed-word successorCell e (omega arith) (λ q. omega arith) (λ q. omega arith)
+    fixed-end Predecessors e = refl
+
+    -- n edges from e on
+    fixed-edges-from : (side : Side) (n e : ℕ) → edgesFrom side m n e ≡ edgesFrom side m₀ n e
+    unfolding edgesFrom
+    fixed-edges-from side zero e = refl
+    fixed-edges-from side (suc n) e =
+        ap (λ (es : List ℕ). e ∷ es) (ap (edgesFrom side m n) (fixed-next side e) ∙ fixed-edges-from side n (nextOf side m₀ e))
+
+    -- the edges of a block
+    pub fixed-edges : (side : Side) (b : ℕ)
+        → edgesFrom side m (countOf side m b) (firstOf side m b) ≡ edgesFrom side m₀ (countOf side m₀ b) (firstOf side m₀ b)
+    fixed-edges side b =
+        ap₂ (edgesFrom side m) (fixed-count side b) (fixed-first side b) ∙ fixed-edges-from side (countOf side m₀ b) (firstOf side m₀ b)
+
+    map-ends : (side : Side) (es : List ℕ) → map (endOf side m) es ≡ map (endOf side m₀) es
+    map-ends side [] = refl
+    map-ends side (e ∷ es) = ap₂ (λ (x : ℕ) (l : List ℕ). x ∷ l) (fixed-end side e) (map-ends side es)
+
+    -- the blocks at their other ends
+    pub fixed-neighbors : (side : Side) (b : ℕ) → neighbors side m b ≡ neighbors side m₀ b
+    unfolding neighborsFrom
+    fixed-neighbors side b =
+        ap (map (endOf side m)) (fixed-edges side b) ∙ map-ends side (edgesFrom side m₀ (countOf side m₀ b) (firstOf side m₀ b))
+
+    -- the edges still have their words and lead to blocks
+    pub fixed-connected : Connected y m₀ → Connected y m
+    fixed-connected h = record {
+      edges = λ side b lt. subst (λ (es : List ℕ). AllBelow (2 * y .blocks) es) (sym (fixed-edges side b)) (h .edges side b lt);
+      ends = λ side b lt. subst (λ (es : List ℕ). AllBelow (y .blocks) es) (sym (fixed-neighbors side b)) (h .ends side b lt);
+      few = λ side b lt. rw (fixed-count side b) (h .few side b lt);
+    }
+
+-- as many neighbors as the count says
+edges-long : (side : Side) (m : Mem) (n e : ℕ) → length (edgesFrom side m n e) ≡ n
+unfolding edgesFrom
+edges-long side m zero e = refl
+edges-long side m (suc n) e = ap suc (edges-long side m n (nextOf side m e))
+
+pub neighbors-long : (side : Side) (m : Mem) (b : ℕ) → length (neighbors side m b) ≡ countOf side m b
+unfolding neighborsFrom
+neighbors-long side m b =
+    length-map (edgesFrom side m (countOf side m b) (firstOf side m b)) (endOf side m) ∙ edges-long side m (countOf side m b) (firstOf side m b)
+
+-- ---- a block's new row, from scratch that was left alone and from the table of rows
+module _ {d : Direction} {y : Layout} {m₀ m : Mem} (f : Fixed d y m₀ m) where
+  -- what a block begins with
+  fixed-entry : (b : ℕ) → entryOf d y m b ≡ entryOf d y m₀ b
+  unfolding entryOf
+  fixed-entry b = go d refl
+    where
+      go : (e : Direction) → d ≡ e → entryOf e y m b ≡ entryOf e y m₀ b
+      go Initialization q = ap (λ (x : List ℕ). pick (eqb b 0) x (replicate (y .words) ones))
+          (f .others (parametersRow (y .blocks)) (λ r. omega arith) (λ r. omega arith) (running-parameters d y))
+      go Liveness q = refl
+
+  module _ (b : ℕ) (lt : b < y .blocks) where
+    -- the transfer of a block
+    fixed-transferred : (x : List ℕ) → transferred d m b x ≡ transferred d m₀ b x
+    unfolding transferred
+    fixed-transferred x = go d
+      where
+        defines : cell m (definesRow b) ≡ cell m₀ (definesRow b)
+        defines = f .others (definesRow b) (λ r. omega arith) (λ r. omega arith) (running-defines d y b lt)
+
+        uses : cell m (usesRow b) ≡ cell m₀ (usesRow b)
+        uses = f .others (usesRow b) (λ r. omega arith) (λ r. omega arith) (running-uses d y b lt)
+
+        go : (e : Direction) → transferred e m b x ≡ transferred e m₀ b x
+        go Initialization = ap (join x) defines
+        go Liveness = ap₂ (λ (k : List ℕ) (g : List ℕ). join (difference x k) g) defines uses
+
+  module _ (t : Mem) where
+    -- a row with what block p keeps, and with what each of a list keeps
+    gather-one : (p : ℕ) (x : List ℕ) → p < y .blocks → gatherOne d m t p x ≡ gatherRow d m₀ (rowsOf d y t) p x
+    unfolding gatherOne gatherRow
+    gather-one p x lt = go d refl
+      where
+        go : (e : Direction) → d ≡ e → gatherOne e m t p x ≡ gatherRow e m₀ (rowsOf d y t) p x
+        go Initialization q =
+            ap₂ (λ (r : ℕ) (z : List ℕ). pick (eqb r 0) x (meet x z)) (fixed-reachable f p)
+            (sym (rows-at d y t p lt ∙ ap (λ (e : Direction). cell t (keptRow e p)) q))
+        go Liveness q = ap (join x) (sym (rows-at d y t p lt ∙ ap (λ (e : Direction). cell t (keptRow e p)) q))
+
+    gather-all : (ps : List ℕ) (x : List ℕ) → AllBelow (y .blocks) ps → gatherAll d m t ps x ≡ gatherRows d m₀ (rowsOf d y t) ps x
+    unfolding gatherAll gatherRows
+    gather-all [] x h = refl
+    gather-all (p ∷ ps) x h =
+        ap (gatherAll d m t ps) (gather-one p x (h .0)) ∙ gather-all ps (gatherRow d m₀ (rowsOf d y t) p x) (h .1)
+
+    -- what a visit computes is what the solver over rows computes
+    pub fixed-computed : Connected y m₀ → (b : ℕ) → b < y .blocks → computed d y m t b ≡ rowSolver d y m₀ .compute b (rowsOf d y t)
+    unfolding computed gathered
+    fixed-computed h b lt =
+        fixed-transferred b lt (gathered d y m t b)
+        ∙ ap (transferred d m₀ b) (ap₂ (gatherAll d m t) (fixed-neighbors f (readsOf d) b) (fixed-entry b)
+        ∙ gather-all (neighbors (readsOf d) m₀ b) (entryOf d y m₀ b) (h .ends (readsOf d) b lt))

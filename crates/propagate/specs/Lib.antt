@@ -1,0 +1,2 @@
+-- A round of `propagate` as a worklist run over rows of words.
+pub mod Rounds

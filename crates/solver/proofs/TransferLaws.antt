@@ -1,0 +1,228 @@
+-- What a visit computes, over words whose running row changes. Assumes nothing.
+use mathlib.Core.Path.{_≡_, refl, sym, ap, ap₂, _∙_, subst}
+use mathlib.Core.List.{List, [], _∷_}
+use Prim.Native.Nat.{ℕ, _+_, _*_, _-_, _≤_, _<_}
+use native.Mathlib.Omega.{arith}
+use borrow.Author.Tests.{eq-eqb, ne-eqb}
+use lib.ListN.{length, replicate}
+use lib.Seq.{set-set, set-getD}
+use Rattle.bitset.specs.Sets.{ones, meet, join, difference}
+use Rattle.memory.specs.Cells.{Mem, cell, word, storeCell}
+use Rattle.memory.specs.Names.{reachableCell, usesRow, definesRow, parametersRow, initializedRow}
+use Rattle.memory.specs.Scratch.{Row}
+use Rattle.memory.specs.Sets.{SetsRow}
+use Rattle.memory.specs.declared.layout.Layout.{Layout}
+use Rattle.memory.proofs.CellLaws.{cell-store-same, cell-store-other, word-cell-other}
+use Rattle.solver.specs.declared.direction.Direction.{Direction}
+use Rattle.solver.specs.declared.direction.Direction.the-variants.{Initialization, Liveness}
+use Rattle.solver.specs.declared.direction.Side.{Side}
+use Rattle.solver.specs.Neighbors.{readsOf, countOf, firstOf, nextOf, endOf, neighborsFrom, neighbors, Connected}
+use Rattle.solver.specs.Transfer.{runningRow, keptRow, entryOf, gatherOne, gatherAll, gathered, transferred, computed}
+use Rattle.solver.proofs.NeighborLaws.{SameEdges, same-stored, end-kept, next-kept, neighbors-kept, connected-kept}
+use Rattle.solver.proofs.NeighborLaws.{ends-more, ends-over, Walk, walk-end, walk-more}
+
+-- ---- where the rows are
+
+-- the running row lies behind those of the blocks
+pub running-low : (d : Direction) (y : Layout) → 18 + 4 * y .blocks ≤ runningRow d y
+running-low Initialization y = omega arith
+running-low Liveness y = omega arith
+
+-- and before the parameters
+pub running-high : (d : Direction) (y : Layout) → runningRow d y < 20 + 4 * y .blocks
+running-high Initialization y = omega arith
+running-high Liveness y = omega arith
+
+-- it is a row of scratch
+pub running-row : (d : Direction) (y : Layout) → Row y (runningRow d y)
+running-row d y = record { low = omega (arith, running-low d y); high = omega (arith, running-high d y) }
+
+-- what is kept for a block is a row of the sets buffer
+pub kept-row : (d : Direction) (y : Layout) (b : ℕ) → b < y .blocks → SetsRow y (keptRow d b)
+kept-row Initialization y b h = omega arith
+kept-row Liveness y b h = omega arith
+
+-- ---- what a block begins with
+module _ (y : Layout) (m : Mem) (b : ℕ) where
+  -- block 0
+  pub begin-first : b ≡ 0 → cell m (parametersRow (y .blocks)) ≡ entryOf Initialization y m b
+  unfolding entryOf
+  begin-first z = rw (eq-eqb b 0 z) refl
+
+  -- another
+  pub begin-other : (b ≡ 0 → ⊥) → replicate (y .words) ones ≡ entryOf Initialization y m b
+  unfolding entryOf
+  begin-other ne = rw (ne-eqb b 0 ne) refl
+
+-- ---- the row of a predecessor, whose word in REACHABLE is g
+module _ (m t : Mem) (p : ℕ) (x : List ℕ) {g : ℕ} (e : g ≡ word m reachableCell p) where
+  -- it is reachable
+  pub gather-reachable : (g ≡ 0 → ⊥) → meet x (cell t (initializedRow p)) ≡ gatherOne Initialization m t p x
+  unfolding gatherOne
+  gather-reachable ne = rw (ne-eqb (word m reachableCell p) 0 (λ q. ne (e ∙ q))) refl
+
+  -- it is not
+  pub gather-unreachable : g ≡ 0 → x ≡ gatherOne Initialization m t p x
+  unfolding gatherOne
+  gather-unreachable z = rw (eq-eqb (word m reachableCell p) 0 (sym e ∙ z)) refl
+
+-- ---- the running row is none of the cells that are read
+module _ (d : Direction) (y : Layout) (m : Mem) (x : List ℕ) where
+  -- each cell before it stays
+  pub row-other : (k : ℕ) → k < 18 + 4 * y .blocks → cell (storeCell m (runningRow d y) x) k ≡ cell m k
+  row-other k h = cell-store-other m (runningRow d y) x k (λ q. omega (arith, running-low d y))
+
+  -- so do the edges
+  pub row-edges : SameEdges m (storeCell m (runningRow d y) x)
+  row-edges =
+      same-stored m (runningRow d y) x (omega (arith, running-low d y)) (λ q. omega (arith, running-low d y))
+      (λ q. omega (arith, running-low d y))
+
+-- a neighbor's row is gathered as before
+gather-one-kept : (d : Direction) (y : Layout) (m t : Mem) (x : List ℕ) (p : ℕ) (z : List ℕ)
+    → gatherOne d (storeCell m (runningRow d y) x) t p z ≡ gatherOne d m t p z
+unfolding gatherOne
+gather-one-kept Initialization y m t x p z =
+    rw (word-cell-other m (runningRow Initialization y) x reachableCell p (λ q. omega arith)) refl
+gather-one-kept Liveness y m t x p z = refl
+
+-- so are all of them
+gather-all-kept : (d : Direction) (y : Layout) (m t : Mem) (x : List ℕ) (ps z : List ℕ)
+    → gatherAll d (storeCell m (runningRow d y) x) t ps z ≡ gatherAll d m t ps z
+unfolding gatherAll
+gather-all-kept d y m t x [] z = refl
+gather-all-kept d y m t x (p ∷ ps) z =
+    gather-all-kept d y m t x ps (gatherOne d (storeCell m (runningRow d y) x) t p z)
+    ∙ ap (gatherAll d m t ps) (gather-one-kept d y m t x p z)
+
+-- and the block's transfer is the same
+transferred-kept : (d : Direction) (y : Layout) (m : Mem) (x : List ℕ) (b : ℕ) (z : List ℕ) → b < y .blocks
+    → transferred d (storeCell m (runningRow d y) x) b z ≡ transferred d m b z
+unfolding transferred
+transferred-kept Initialization y m x b z h = rw (row-other Initialization y m x (definesRow b) (omega arith)) refl
+transferred-kept Liveness y m x b z h =
+    rw (row-other Liveness y m x (definesRow b) (omega arith), row-other Liveness y m x (usesRow b) (omega arith)) refl
+
+-- ---- the loop over the neighbors: k of n are gathered, e is the next edge, and the words are m₁
+module _ (d : Direction) (y : Layout) (m t : Mem) (side : Side) (n e₀ : ℕ) where
+  pub record Gathering (k e : ℕ) (m₁ : Mem) : Type 0 where
+    pub same : m₁ ≡ storeCell m (runningRow d y) (cell m₁ (runningRow d y))
+    pub rest : gatherAll d m t (neighborsFrom side m (n - k) e) (cell m₁ (runningRow d y))
+        ≡ gatherAll d m t (neighborsFrom side m n e₀) (cell m (runningRow d y))
+    pub walk : Walk y side m n k e
+
+module _ {d : Direction} {y : Layout} {m t : Mem} {side : Side} {n e₀ : ℕ} where
+  -- before the first neighbor
+  pub gathering-none : Walk y side m n 0 e₀ → Gathering d y m t side n e₀ 0 e₀ m
+  gathering-none w =
+      let z : n - 0 ≡ n = omega arith in
+      record { same = sym (set-getD m (runningRow d y) []); rest = rw z refl; walk = w }
+
+  module _ {k e : ℕ} {m₁ : Mem} (g : Gathering d y m t side n e₀ k e m₁) where
+    -- the edges are as they were
+    pub gathering-edges : SameEdges m m₁
+    gathering-edges = subst (SameEdges m) (sym (g .same)) (row-edges d y m (cell m₁ (runningRow d y)))
+
+    -- the block at the other end is one
+    pub gathering-from : k < n → {p : ℕ} → p ≡ endOf side m₁ e → p < y .blocks
+    gathering-from h q = rw (q ∙ end-kept gathering-edges side e) (walk-end h (g .walk))
+
+    -- its row is gathered, and the edge behind is the next
+    pub gathering-more : runningRow d y < length m → k < n → {p e′ : ℕ} {m₂ : Mem} → p ≡ endOf side m₁ e
+        → m₂ ≡ storeCell m₁ (runningRow d y) (gatherOne d m₁ t p (cell m₁ (runningRow d y))) → e′ ≡ nextOf side m₂ e
+        → Gathering d y m t side n e₀ (k + 1) e′ m₂
+    unfolding gatherAll
+    gathering-more lt h {p} {e′} {m₂} ep e₂ ee = record {
+      same = whole ∙ ap (storeCell m (runningRow d y)) (sym here);
+      rest = ap (gatherAll d m t (neighborsFrom side m (n - (k + 1)) e′)) here ∙ next;
+      walk = walk-more h (g .walk) then;
+    }
+      where
+        x : List ℕ
+        x = cell m₁ (runningRow d y)
+
+        z : List ℕ
+        z = gatherOne d m t p x
+
+        new : gatherOne d m₁ t p x ≡ z
+        new = ap (λ (w : Mem). gatherOne d w t p (cell m₁ (runningRow d y))) (g .same) ∙ gather-one-kept d y m t x p x
+
+        whole : m₂ ≡ storeCell m (runningRow d y) z
+        whole =
+            e₂ ∙ ap (λ (w : Mem). storeCell w (runningRow d y) (gatherOne d m₁ t p x)) (g .same)
+            ∙ set-set m (runningRow d y) x (gatherOne d m₁ t p x) ∙ ap (storeCell m (runningRow d y)) new
+
+        here : cell m₂ (runningRow d y) ≡ z
+        here = ap (λ (w : Mem). cell w (runningRow d y)) whole ∙ cell-store-same m (runningRow d y) z lt
+
+        then : e′ ≡ nextOf side m e
+        then = ee ∙ next-kept (subst (SameEdges m) (sym whole) (row-edges d y m z)) side e
+
+        at : endOf side m e ≡ p
+        at = sym (ep ∙ end-kept gathering-edges side e)
+
+        next : gatherAll d m t (neighborsFrom side m (n - (k + 1)) e′) z
+            ≡ gatherAll d m t (neighborsFrom side m n e₀) (cell m (runningRow d y))
+        next =
+            ap₂ (λ (q a : ℕ). gatherAll d m t (neighborsFrom side m (n - (k + 1)) q) (gatherOne d m t a x)) then (sym at)
+            ∙ sym (ap (λ (l : List ℕ). gatherAll d m t l x) (ends-more side m n k e h)) ∙ g .rest
+
+    -- no edge is left
+    pub gathering-all : n ≤ k → (b : ℕ) → n ≡ countOf side m b → e₀ ≡ firstOf side m b → side ≡ readsOf d
+        → m₁ ≡ storeCell m (runningRow d y) (gatherAll d m t (neighbors (readsOf d) m b) (cell m (runningRow d y)))
+    unfolding gatherAll
+    gathering-all h b en ee es =
+        g .same ∙ ap (storeCell m (runningRow d y))
+        (sym (ap (λ (l : List ℕ). gatherAll d m t l (cell m₁ (runningRow d y))) (ends-over side m n k e h)) ∙ g .rest
+        ∙ ap (λ (l : List ℕ). gatherAll d m t l (cell m (runningRow d y)))
+        (ap₂ (neighborsFrom side m) en ee ∙ ap (λ (a : Side). neighbors a m b) es))
+
+-- ---- one function after the other, all on the running row
+module _ (d : Direction) (y : Layout) (m t : Mem) (b : ℕ) (lt : runningRow d y < length m) where
+  -- the row begins as x, then the neighbors are gathered
+  gathered-from : {m₁ m₂ : Mem} (x : List ℕ) → m₁ ≡ storeCell m (runningRow d y) x
+      → m₂ ≡ storeCell m₁ (runningRow d y) (gatherAll d m₁ t (neighbors (readsOf d) m₁ b) (cell m₁ (runningRow d y)))
+      → m₂ ≡ storeCell m (runningRow d y) (gatherAll d m t (neighbors (readsOf d) m b) x)
+  gathered-from x e₁ e₂ =
+      e₂ ∙ ap (λ (w : Mem). storeCell w (runningRow d y) (gatherAll d w t (neighbors (readsOf d) w b) (cell w (runningRow d y)))) e₁
+      ∙ set-set m (runningRow d y) x _
+      ∙ ap (storeCell m (runningRow d y))
+      (gather-all-kept d y m t x _ _
+      ∙ ap₂ (gatherAll d m t) (neighbors-kept (row-edges d y m x) (readsOf d) b) (cell-store-same m (runningRow d y) x lt))
+
+  -- it begins as the block does
+  pub gathers : {m₁ m₂ : Mem} → m₁ ≡ storeCell m (runningRow d y) (entryOf d y m b)
+      → m₂ ≡ storeCell m₁ (runningRow d y) (gatherAll d m₁ t (neighbors (readsOf d) m₁ b) (cell m₁ (runningRow d y)))
+      → m₂ ≡ storeCell m (runningRow d y) (gathered d y m t b)
+  unfolding gathered
+  gathers e₁ e₂ = gathered-from (entryOf d y m b) e₁ e₂
+
+  -- it is gathered, then goes through the block
+  pub computes : {m₁ m₂ : Mem} → b < y .blocks → m₁ ≡ storeCell m (runningRow d y) (gathered d y m t b)
+      → m₂ ≡ storeCell m₁ (runningRow d y) (transferred d m₁ b (cell m₁ (runningRow d y)))
+      → m₂ ≡ storeCell m (runningRow d y) (computed d y m t b)
+  unfolding computed
+  computes h e₁ e₂ =
+      let x : List ℕ = gathered d y m t b in
+      e₂ ∙ ap (λ (w : Mem). storeCell w (runningRow d y) (transferred d w b (cell w (runningRow d y)))) e₁
+      ∙ set-set m (runningRow d y) x _
+      ∙ ap (storeCell m (runningRow d y))
+      (transferred-kept d y m x b _ h ∙ ap (transferred d m b) (cell-store-same m (runningRow d y) x lt))
+
+-- the edges of a block are still there after its row has begun
+pub begun-connected : (d : Direction) (y : Layout) (m : Mem) {m₁ : Mem} (x : List ℕ) → m₁ ≡ storeCell m (runningRow d y) x → Connected y m
+    → Connected y m₁
+begun-connected d y m x e c = subst (Connected y) (sym e) (connected-kept (row-edges d y m x) y c)
+
+-- what the block defines goes, then what it uses comes
+pub live-transfers : (y : Layout) (m : Mem) (b : ℕ) → runningRow Liveness y < length m → b < y .blocks → {m₁ m₂ : Mem}
+    → m₁ ≡ storeCell m (runningRow Liveness y) (difference (cell m (runningRow Liveness y)) (cell m (definesRow b)))
+    → m₂ ≡ storeCell m₁ (runningRow Liveness y) (join (cell m₁ (runningRow Liveness y)) (cell m₁ (usesRow b)))
+    → m₂ ≡ storeCell m (runningRow Liveness y) (transferred Liveness m b (cell m (runningRow Liveness y)))
+unfolding transferred
+live-transfers y m b lt h e₁ e₂ =
+    let x : List ℕ = difference (cell m (runningRow Liveness y)) (cell m (definesRow b)) in
+    e₂ ∙ ap (λ (w : Mem). storeCell w (runningRow Liveness y) (join (cell w (runningRow Liveness y)) (cell w (usesRow b)))) e₁
+    ∙ set-set m (runningRow Liveness y) x _
+    ∙ ap (storeCell m (runningRow Liveness y))
+    (ap₂ join (cell-store-same m (runningRow Liveness y) x lt) (row-other Liveness y m x (usesRow b) (omega arith)))
