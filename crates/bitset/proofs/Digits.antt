@@ -185,3 +185,15 @@ differs d x y = go (ℕ-discrete d 0) (ℕ-discrete x y)
         ∙ sym (ap₂ _&&_ (eq-eqb d 0 p) (eq-eqb x y q))
     go (yes p) (no q) = ne-eqb (bitOr d z) 0 (unequal (λ _. q)) ∙ sym (ap₂ _&&_ (eq-eqb d 0 p) (ne-eqb x y q))
     go (no p) q = ne-eqb (bitOr d z) 0 (unequal (λ e _. p e)) ∙ sym (ap (λ (t : Bool). t && eqb x y) (ne-eqb d 0 p))
+
+-- an OR is 0 exactly if both numbers are
+pub or-zero : (d z : ℕ) → eqb (bitOr d z) 0 ≡ (eqb d 0 && eqb z 0)
+or-zero d z = go (ℕ-discrete d 0) (ℕ-discrete z 0)
+  where
+    unequal : ((d ≡ 0) → z ≡ 0 → ⊥) → bitOr d z ≡ 0 → ⊥
+    unequal h e = h (omega (arith, or-add-and d z, and-le-r d z)) (omega (arith, or-add-and d z, and-le-l d z))
+
+    go : Dec (d ≡ 0) → Dec (z ≡ 0) → eqb (bitOr d z) 0 ≡ (eqb d 0 && eqb z 0)
+    go (yes p) (yes q) = ap (λ (n : ℕ). eqb n 0) (ap₂ bitOr p q ∙ or-self 0) ∙ sym (ap₂ _&&_ (eq-eqb d 0 p) (eq-eqb z 0 q))
+    go (yes p) (no q) = ne-eqb (bitOr d z) 0 (unequal (λ _. q)) ∙ sym (ap₂ _&&_ (eq-eqb d 0 p) (ne-eqb z 0 q))
+    go (no p) q = ne-eqb (bitOr d z) 0 (unequal (λ e _. p e)) ∙ sym (ap (λ (t : Bool). t && eqb z 0) (ne-eqb d 0 p))

@@ -1,18 +1,18 @@
--- The loops: one that stores f of two words at each place of a row, from the front, and one that compares two rows. Assumes nothing.
+-- The loops: one that stores f of two words at each place of a row, from the front, and two that compare two rows. Assumes nothing.
 use mathlib.Core.Logic.{inl, inr}
 use mathlib.Core.Path.{_≡_, refl, sym, ap, ap₂, _∙_}
-use mathlib.Core.Bool.{Bool, _&&_, and-true, and-assoc}
+use mathlib.Core.Bool.{Bool, true, false, not, _&&_, _||_, and-true, and-assoc, or-false, or-assoc}
 use mathlib.Core.List.{List, [], _∷_, _++_, append-assoc}
 use Prim.Native.Nat.{ℕ, _+_, _≤_, _<_}
 use native.Mathlib.Numerals.{add-one}
 use native.Mathlib.Omega.{arith}
-use lib.Bits.{bitOr, bitXor}
+use lib.Bits.{bitAnd, bitOr, bitXor}
 use lib.Dec.{eqb}
 use lib.ListN.{length, take, drop, getD, set, replicate, length-set, length-drop, length-replicate, getD-replicate}
 use lib.Seq.{take-all, take-suc, length-take-le, getD-drop, paste, paste-zero, paste-suc}
-use Rattle.bitset.specs.Sets.{zipped, same}
+use Rattle.bitset.specs.Sets.{zipped, same, common}
 use Rattle.bitset.specs.Rows.{row, patched, Apart}
-use Rattle.bitset.proofs.Digits.{differs}
+use Rattle.bitset.proofs.Digits.{differs, or-zero}
 use Rattle.bitset.proofs.SetLaws.{length-zipped, getD-zipped}
 use Rattle.bitset.proofs.RowLaws.{length-row, getD-row, patched-before, patched-after}
 
@@ -141,3 +141,47 @@ module _ {a : List ℕ} {i : ℕ} {b : List ℕ} {j w k differ : ℕ} (compared 
   compared-all h =
       let e : k ≡ w = omega (arith, compared .below) in
       compared .is ∙ ap (λ (n : ℕ). same (row a i n) (row b j n)) e
+
+-- ---- a loop that looks for a common slot
+common-snoc : (xs ys : List ℕ) (x y : ℕ) → length xs ≡ length ys
+    → common (xs ++ x ∷ []) (ys ++ y ∷ []) ≡ (common xs ys || not (eqb (bitAnd x y) 0))
+unfolding common
+common-snoc [] [] x y h = or-false (not (eqb (bitAnd x y) 0))
+common-snoc [] (b ∷ ys) x y h = absurd (omega arith)
+common-snoc (a ∷ xs) [] x y h = absurd (omega arith)
+common-snoc (a ∷ xs) (b ∷ ys) x y h =
+    ap (λ (t : Bool). not (eqb (bitAnd a b) 0) || t) (common-snoc xs ys x y (omega arith))
+    ∙ sym (or-assoc (not (eqb (bitAnd a b) 0)) (common xs ys) (not (eqb (bitAnd x y) 0)))
+
+not-and : (a b : Bool) → not (a && b) ≡ (not a || not b)
+not-and true b = refl
+not-and false b = refl
+
+-- after k turns of w: the OR of the ANDs is not 0 exactly if the words so far have a slot in common
+pub record Shared (a : List ℕ) (i j w k both : ℕ) : Type 0 where
+  pub below : k ≤ w
+  pub is : not (eqb both 0) ≡ common (row a i k) (row a j k)
+
+pub shared-none : {a : List ℕ} {i j w : ℕ} → Shared a i j w 0 0
+unfolding common row
+shared-none = record { below = omega arith; is = refl }
+
+module _ {a : List ℕ} {i j w k both : ℕ} (shared : Shared a i j w k both) where
+  pub shared-more : i + w ≤ length a → j + w ≤ length a → k < w
+      → Shared a i j w (k + 1) (bitOr both (bitAnd (getD a (i + k) 0) (getD a (j + k) 0)))
+  shared-more hi hj turn =
+      let x : ℕ = getD a (i + k) 0 in
+      let y : ℕ = getD a (j + k) 0 in
+      record {
+        below = omega arith;
+        is =
+            ap not (or-zero both (bitAnd x y)) ∙ not-and (eqb both 0) (eqb (bitAnd x y) 0)
+            ∙ ap (λ (t : Bool). t || not (eqb (bitAnd x y) 0)) (shared .is)
+            ∙ sym (ap₂ common (row-more a i k (omega arith)) (row-more a j k (omega arith))
+            ∙ common-snoc (row a i k) (row a j k) x y (length-row a i k (omega arith) ∙ sym (length-row a j k (omega arith))));
+      }
+
+  pub shared-all : w ≤ k → not (eqb both 0) ≡ common (row a i w) (row a j w)
+  shared-all h =
+      let e : k ≡ w = omega (arith, shared .below) in
+      shared .is ∙ ap (λ (n : ℕ). common (row a i n) (row a j n)) e

@@ -1,7 +1,7 @@
 -- What `member` says of each set that the contracts name, sets of equal members, and words that fit. Assumes nothing.
-use mathlib.Core.Logic.{_↔_}
+use mathlib.Core.Logic.{_↔_, _⊎_, inl, inr}
 use mathlib.Core.Path.{_≡_, refl, sym, ap, ap₂, _∙_}
-use mathlib.Core.Bool.{Bool, true, false, not, _&&_, _||_, or-comm, and-comm, false≢true}
+use mathlib.Core.Bool.{Bool, true, false, not, _&&_, _||_, or-comm, and-comm, or-true, false≢true}
 use mathlib.Core.List.{List, [], _∷_}
 use Prim.Native.Nat.{ℕ, zero, suc, _+_, _-_, _*_, _/_, _%_, _^_, _≤_, _<_}
 use native.Mathlib.Decide.{decLt, ℕ-discrete}
@@ -12,7 +12,7 @@ use lib.ListN.{length, getD, set, replicate, length-set, length-replicate, getD-
 use lib.Pow.{pow-lt}
 use lib.Seq.{getD-set-same, getD-set-other, ext-getD}
 use borrow.Author.Tests.{eq-eqb, ne-eqb, eqb-true}
-use Rattle.bitset.specs.Sets.{ones, member, inserted, removed, zipped, meet, join, difference, same, Words}
+use Rattle.bitset.specs.Sets.{ones, member, inserted, removed, zipped, meet, join, difference, same, common, Words}
 use Rattle.bitset.proofs.Digits.{bit, bit-and, bit-or, bit-not, bit-zero, bit-ones, bit-pow, bits-tell}
 
 -- ---- past the end, and rows of one word repeated
@@ -218,3 +218,80 @@ module _ {w : ℕ} {xs ys : List ℕ} (hx : Words w xs) (hy : Words w ys) where
 
   pub same-members : (same xs ys ≡ true) ↔ ((i : ℕ) → i < 64 * w → member xs i ≡ member ys i)
   same-members = (λ e. same-exact .0 (same-yes xs ys e), λ h. rw (same-exact .1 h) (same-refl ys))
+
+-- ---- a common member
+-- the word that has one
+word-common : (xs ys : List ℕ) → common xs ys ≡ true → (k : ℕ) × (k < length xs) × (bitAnd (getD xs k 0) (getD ys k 0) ≡ 0 → ⊥)
+unfolding common
+word-common [] ys e = absurd (false≢true e)
+word-common (x ∷ xs) [] e = absurd (false≢true e)
+word-common (x ∷ xs) (y ∷ ys) e = go (ℕ-discrete (bitAnd x y) 0) (λ q. word-common xs ys q)
+  where
+    go : Dec (bitAnd x y ≡ 0) → (common xs ys ≡ true → (k : ℕ) × (k < length xs) × (bitAnd (getD xs k 0) (getD ys k 0) ≡ 0 → ⊥))
+        → (k : ℕ) × (k < length (x ∷ xs)) × (bitAnd (getD (x ∷ xs) k 0) (getD (y ∷ ys) k 0) ≡ 0 → ⊥)
+    go (no ne) below = (0, omega arith, ne)
+    go (yes z) below =
+        let r = below (ap (λ (t : Bool). not t || common xs ys) (sym (eq-eqb (bitAnd x y) 0 z)) ∙ e) in
+        (suc (r .0), omega (arith, r .1), r .2)
+
+-- a word that has one tells it
+common-word : (xs ys : List ℕ) (k : ℕ) → k < length xs → k < length ys → (bitAnd (getD xs k 0) (getD ys k 0) ≡ 0 → ⊥) → common xs ys ≡ true
+unfolding common
+common-word [] ys k h g ne = absurd (omega arith)
+common-word (x ∷ xs) [] k h g ne = absurd (omega arith)
+common-word (x ∷ xs) (y ∷ ys) zero h g ne = ap (λ (t : Bool). not t || common xs ys) (ne-eqb (bitAnd x y) 0 ne)
+common-word (x ∷ xs) (y ∷ ys) (suc k) h g ne =
+    ap (λ (t : Bool). not (eqb (bitAnd x y) 0) || t) (common-word xs ys k (omega arith) (omega arith) ne) ∙ or-true (not (eqb (bitAnd x y) 0))
+
+-- among the first n bits of a number one is set, or none is
+a-bit : (x n : ℕ) → ((j : ℕ) × (j < n) × (bit x j ≡ true)) ⊎ ((j : ℕ) → j < n → bit x j ≡ false)
+a-bit x zero = inr (λ j l. absurd (omega arith))
+a-bit x (suc n) = go (bit x n) refl (a-bit x n)
+  where
+    go : (t : Bool) → bit x n ≡ t → ((j : ℕ) × (j < n) × (bit x j ≡ true)) ⊎ ((j : ℕ) → j < n → bit x j ≡ false)
+        → ((j : ℕ) × (j < suc n) × (bit x j ≡ true)) ⊎ ((j : ℕ) → j < suc n → bit x j ≡ false)
+    go true e below = inl (n, omega arith, e)
+    go false e (inl r) = inl (r .0, omega (arith, r .1), r .2)
+    go false e (inr none) = inr (λ j l. at j l (ℕ-discrete j n))
+      where
+        at : (j : ℕ) → j < suc n → Dec (j ≡ n) → bit x j ≡ false
+        at j l (yes q) = ap (bit x) q ∙ e
+        at j l (no q) = none j (omega arith)
+
+-- a word that is not 0 has a bit
+some-bit : (x : ℕ) → x < 2 ^ 64 → (x ≡ 0 → ⊥) → (j : ℕ) × (j < 64) × (bit x j ≡ true)
+some-bit x h ne = go (a-bit x 64)
+  where
+    go : ((j : ℕ) × (j < 64) × (bit x j ≡ true)) ⊎ ((j : ℕ) → j < 64 → bit x j ≡ false) → (j : ℕ) × (j < 64) × (bit x j ≡ true)
+    go (inl r) = r
+    go (inr none) = absurd (ne (bits-tell 64 x 0 h (lit< tt) (λ j l. none j l ∙ sym (bit-zero j))))
+
+and-both : (a b : Bool) → (a && b) ≡ true → (a ≡ true) × (b ≡ true)
+and-both true b e = (refl, e)
+and-both false b e = absurd (false≢true e)
+
+module _ {w : ℕ} {xs ys : List ℕ} (hx : Words w xs) (hy : Words w ys) where
+  -- sets with a slot in common have one
+  pub common-member : common xs ys ≡ true → (i : ℕ) × (i < 64 * w) × (member xs i ≡ true) × (member ys i ≡ true)
+  unfolding member
+  common-member e =
+      let r = word-common xs ys e in
+      let k : ℕ = r .0 in
+      let x : ℕ = getD xs k 0 in
+      let y : ℕ = getD ys k 0 in
+      let b = some-bit (bitAnd x y) (omega (arith, hx .fits k, and-le-l x y)) (r .2) in
+      let j : ℕ = b .0 in
+      let p : (bit x j ≡ true) × (bit y j ≡ true) = and-both (bit x j) (bit y j) (sym (bit-and x y j) ∙ b .2) in
+      let q : (64 * k + j) / 64 ≡ k = omega (arith, b .1) in
+      let m : (64 * k + j) % 64 ≡ j = omega (arith, b .1) in
+      (64 * k + j, omega (arith, b .1, r .1, hx .long), rw (q, m) (p .0), rw (q, m) (p .1))
+
+  -- and sets that have one have a slot in common
+  pub member-common : (i : ℕ) → i < 64 * w → member xs i ≡ true → member ys i ≡ true → common xs ys ≡ true
+  unfolding member
+  member-common i l p q =
+      let k : ℕ = i / 64 in
+      let x : ℕ = getD xs k 0 in
+      let y : ℕ = getD ys k 0 in
+      common-word xs ys k (omega (arith, hx .long)) (omega (arith, hy .long))
+      (λ z. false≢true (sym (bit-zero (i % 64)) ∙ ap (λ (t : ℕ). bit t (i % 64)) (sym z) ∙ bit-and x y (i % 64) ∙ ap₂ _&&_ p q))

@@ -1,6 +1,6 @@
 -- A set of slots in words of 64 bits: slot i is in the set where bit i % 64 of word i / 64 is 1.
 use mathlib.Core.Path.{_≡_}
-use mathlib.Core.Bool.{Bool, true, false, _&&_}
+use mathlib.Core.Bool.{Bool, true, false, not, _&&_, _||_}
 use mathlib.Core.List.{List, [], _∷_}
 use Prim.Native.Nat.{ℕ, _-_, _/_, _%_, _^_, _<_}
 use lib.Bits.{bitAnd, bitOr}
@@ -51,6 +51,12 @@ same [] [] = true
 same [] (y ∷ ys) = false
 same (x ∷ xs) [] = false
 same (x ∷ xs) (y ∷ ys) = eqb x y && same xs ys
+
+-- whether two sets have a slot in common
+unfoldable pub common : List ℕ → List ℕ → Bool
+common [] ys = false
+common (x ∷ xs) [] = false
+common (x ∷ xs) (y ∷ ys) = not (eqb (bitAnd x y) 0) || common xs ys
 
 -- a set of w words: each fits 64 bits, as the words of a slice do
 pub record Words (w : ℕ) (ws : List ℕ) : Type 0 where

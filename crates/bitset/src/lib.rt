@@ -5,7 +5,7 @@
 ghost use mathlib.Core.Path.{_≡_};
 ghost use Prim.Native.Nat.{_+_, _≤_, _<_, _/_};
 ghost use lib.ListN.{length, drop, replicate};
-ghost use Rattle.bitset.specs.Sets.{member, meet, join, difference, same};
+ghost use Rattle.bitset.specs.Sets.{common, member, meet, join, difference, same};
 ghost use Rattle.bitset.specs.Rows.{row, patched, insertedAt, removedAt, Apart};
 
 // Whether the slot is in the set that begins at base: `contains` of flow.rs.
@@ -128,4 +128,18 @@ pub fn same(a: &[u64], i: usize, b: &[u64], j: usize, w: usize) -> bool
         k += 1;
     }
     differ == 0
+}
+
+// Whether the rows at i and at j have a slot in common.
+pub fn common(a: &[u64], i: usize, j: usize, w: usize) -> bool
+    requires { ⌜ (i + w ≤ length (now a)) × (j + w ≤ length (now a)) ⌝ }
+    ensures { λ r. ⌜ r ≡ common (row (now (a .entry)) i w) (row (now (a .entry)) j w) ⌝ }
+{
+    let mut both = 0;
+    let mut k = 0;
+    while k < w {
+        both |= a[i + k] & a[j + k];
+        k += 1;
+    }
+    both != 0
 }

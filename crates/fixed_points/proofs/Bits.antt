@@ -152,7 +152,7 @@ module _ {code : List Instruction} {parameter : ℕ → Bool} {y : Layout} {m : 
 
   -- ---- what a block begins with
   -- it is a row of words
-  entry-words : (d : Direction) (b : ℕ) → Words (y .words) (entryOf d y m b)
+  pub entry-words : (d : Direction) (b : ℕ) → Words (y .words) (entryOf d y m b)
   unfolding entryOf
   entry-words Initialization b = go (eqb b 0)
     where
@@ -162,7 +162,7 @@ module _ {code : List Instruction} {parameter : ℕ → Bool} {y : Layout} {m : 
   entry-words Liveness b = words-replicate (y .words) 0 (lit< tt)
 
   -- its bits forwards: at block 0 the parameters, at another all
-  entry-init : (b i : ℕ) → i < bits → member (entryOf Initialization y m b) i ≡ (not (eqb b 0) || parameter i)
+  pub entry-init : (b i : ℕ) → i < bits → member (entryOf Initialization y m b) i ≡ (not (eqb b 0) || parameter i)
   unfolding entryOf
   entry-init b i li = go (eqb b 0)
     where
@@ -171,7 +171,7 @@ module _ {code : List Instruction} {parameter : ℕ → Bool} {y : Layout} {m : 
       go false = member-ones (y .words) i (omega arith)
 
   -- its bits backwards: none
-  entry-live : (b i : ℕ) → member (entryOf Liveness y m b) i ≡ false
+  pub entry-live : (b i : ℕ) → member (entryOf Liveness y m b) i ≡ false
   unfolding entryOf
   entry-live b i = member-zero (y .words) i
 
@@ -243,14 +243,14 @@ module _ {code : List Instruction} {parameter : ℕ → Bool} {y : Layout} {m : 
         member-join x (getD rows p []) i (in-row h i li) ∙ ap (λ (a : Bool). member x i || a) (sym (table-at false p i lp li))
 
     -- all neighbors: they keep rows of words
-    gathers-words : (d : Direction) (ps : List ℕ) (x : List ℕ) → AllBelow (y .blocks) ps → Words (y .words) x
+    pub gathers-words : (d : Direction) (ps : List ℕ) (x : List ℕ) → AllBelow (y .blocks) ps → Words (y .words) x
         → Words (y .words) (gatherRows d m rows ps x)
     unfolding gatherRows
     gathers-words d [] x l h = h
     gathers-words d (p ∷ ps) x l h = gathers-words d ps (gatherRow d m rows p x) (l .1) (gather-words d p x (l .0) h)
 
     -- their bits forwards
-    gathers-init : (ps : List ℕ) (x : List ℕ) → AllBelow (y .blocks) ps → (i : ℕ) → i < bits
+    pub gathers-init : (ps : List ℕ) (x : List ℕ) → AllBelow (y .blocks) ps → (i : ℕ) → i < bits
         → member (gatherRows Initialization m rows ps x) i
         ≡ (member x i && every (λ c. not (reachable code c) || bitAt true (map (bitsOf bits) rows) c i) ps)
     unfolding gatherRows
@@ -262,7 +262,7 @@ module _ {code : List Instruction} {parameter : ℕ → Bool} {y : Layout} {m : 
         (every (λ c. not (reachable code c) || bitAt true (map (bitsOf bits) rows) c i) ps)
 
     -- their bits backwards
-    gathers-live : (ps : List ℕ) (x : List ℕ) → AllBelow (y .blocks) ps → Words (y .words) x → (i : ℕ) → i < bits
+    pub gathers-live : (ps : List ℕ) (x : List ℕ) → AllBelow (y .blocks) ps → Words (y .words) x → (i : ℕ) → i < bits
         → member (gatherRows Liveness m rows ps x) i ≡ (member x i || some (λ c. bitAt false (map (bitsOf bits) rows) c i) ps)
     unfolding gatherRows
     gathers-live [] x l h i li = sym (or-false (member x i))

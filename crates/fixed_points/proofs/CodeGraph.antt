@@ -74,7 +74,7 @@ module _ {code : List Instruction} {parameter : ℕ → Bool} {y : Layout} {m : 
   ))
 
   -- among the blocks they are those that the words hold
-  edges-in : (side : Side) (b : ℕ) → b < y .blocks → neighbors side m b ≡ edgesOf code side b
+  pub edges-in : (side : Side) (b : ℕ) → b < y .blocks → neighbors side m b ≡ edgesOf code side b
   edges-in Successors b lt = graphs.successors-are (f .holds) b lt
   edges-in Predecessors b lt =
       graphs.predecessors-are (f .holds) (f .chained) b lt ∙ ap (λ (n : ℕ). predecessorsOf (blockSuccessors code) n b) (f .blocks)

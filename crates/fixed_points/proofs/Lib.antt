@@ -5,3 +5,4 @@ pub mod RoundLaws
 pub mod Seeds
 pub mod FixedLaws
 pub mod PathLaws
+pub mod Gathered

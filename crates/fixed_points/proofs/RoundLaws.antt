@@ -91,12 +91,12 @@ map-tabulate {B = B} h v k (suc n) f e =
 
 module _ (d : Direction) (y : Layout) (t : Mem) where
   -- one row a block
-  rows-long : length (rowsOf d y t) ≡ y .blocks
+  pub rows-long : length (rowsOf d y t) ≡ y .blocks
   unfolding rowsOf
   rows-long = length-tabulate 0 (y .blocks) (λ c. cell t (keptRow d c))
 
   -- a bit of a row that a round keeps
-  rows-bit : (v : Bool) (c i : ℕ) → c < y .blocks → i < 64 * y .words
+  pub rows-bit : (v : Bool) (c i : ℕ) → c < y .blocks → i < 64 * y .words
       → bitAt v (map (bitsOf (64 * y .words)) (rowsOf d y t)) c i ≡ member (cell t (keptRow d c)) i
   rows-bit v c i lc li =
       ap (λ (l : List Bool). getD l i v) (map-at (bitsOf (64 * y .words)) (rowsOf d y t) c [] [] (omega (arith, rows-long)))

@@ -1,10 +1,12 @@
 -- A cell as a row of the words: what `bitset` does to the row is done to the cell. Assumes nothing.
 use mathlib.Core.Logic.{_≢_}
 use mathlib.Core.Path.{_≡_, sym, ap, ap₂, _∙_}
-use mathlib.Core.List.{List}
-use Prim.Native.Nat.{ℕ, _+_, _/_, _≤_, _<_}
+use mathlib.Core.List.{List, [], _∷_, _++_, append-assoc}
+use Prim.Native.Nat.{ℕ, suc, _+_, _/_, _≤_, _<_}
+use native.Mathlib.Numerals.{add-one}
 use native.Mathlib.Omega.{arith}
-use lib.ListN.{length, drop, replicate, length-replicate}
+use lib.ListN.{length, take, drop, set, replicate, length-replicate}
+use lib.Seq.{take-suc-set, drop-set-lt}
 use Rattle.bitset.specs.Sets.{member, inserted, removed, zipped}
 use Rattle.bitset.specs.Rows.{row, patched, insertedAt, removedAt, Apart}
 use Rattle.bitset.proofs.SetLaws.{length-inserted, length-removed, length-zipped}
@@ -67,3 +69,22 @@ module _ {ns l ms t : List ℕ} {j k d s w : ℕ} (p : Lies ns l j d w) (q : Lie
   lies-zipped f e =
       lies-changed p (λ x. zipped f x (row t s w)) (λ x. length-zipped f x (row t s w)) e
       ∙ ap (λ (x : List ℕ). storeCell (cells ns l) j (zipped f (cell (cells ns l) j) x)) (lies-row q)
+
+-- a word and the words behind it, put one after the other
+patched-cons : (l : List ℕ) (base v : ℕ) (ys : List ℕ) → base < length l → patched (set l base v) (base + 1) ys ≡ patched l base (v ∷ ys)
+unfolding patched
+patched-cons l base v ys h =
+    let n : ℕ = base + 1 + length ys in
+    let e : n ≡ base + length (v ∷ ys) = omega arith in
+    ap₂ (λ (a b : List ℕ). a ++ (ys ++ b))
+    (ap (λ (k : ℕ). take k (set l base v)) (add-one base) ∙ take-suc-set l base v h)
+    (drop-set-lt n l base v (omega arith) ∙ ap (λ (k : ℕ). drop k l) e)
+    ∙ append-assoc (take base l) (v ∷ []) (ys ++ drop (base + length (v ∷ ys)) l)
+
+-- a cell of a word and a row
+module _ {ns l ms t : List ℕ} {j k d s w : ℕ} (p : Lies ns l j d (1 + w)) (q : Lies ms t k s w) where
+  pub lies-headed : (v : ℕ) {l′ : List ℕ} → l′ ≡ patched (set l d v) (d + 1) (row t s w) → cells ns l′ ≡ storeCell (cells ns l) j (v ∷ cell (cells ms t) k)
+  lies-headed v e =
+      lies-patched p (v ∷ row t s w) (ap suc (length-row t s w (lies-fits q)) ∙ omega arith)
+      (e ∙ patched-cons l d v (row t s w) (omega (arith, lies-fits p)))
+      ∙ ap (λ (x : List ℕ). storeCell (cells ns l) j (v ∷ x)) (lies-row q)

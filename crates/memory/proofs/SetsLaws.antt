@@ -80,6 +80,10 @@ module _ {y : Layout} (l : List ℕ) (room : SetsRoom y (length l)) where
     sets-row-words f = rw (width-sets-row y k r) at (cell-words (setsWidths y) l k f enough)
 
   module _ {k : ℕ} (r : AwaitEntry y k) where
+    -- entry k, which begins at base, in the slice
+    pub await-lies : {base : ℕ} → base ≡ start (setsWidths y) k → Lies (setsWidths y) l k base (1 + y .words)
+    await-lies e = record { begins = e; wide = width-await y k r; room = enough }
+
     pub await-length : length (cell (sets y l) k) ≡ 1 + y .words
     await-length = sets-sized .wide k ∙ width-await y k r
 

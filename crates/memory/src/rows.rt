@@ -1,12 +1,13 @@
 // Whole rows of scratch and of the sets buffer.
 use crate::layout::Layout;
 ghost use mathlib.Core.Path.{_≡_};
+ghost use mathlib.Core.List.{_∷_};
 ghost use Prim.Native.Nat.{_+_, _*_, _≤_, _<_};
 ghost use lib.ListN.{length, replicate};
-ghost use Rattle.bitset.specs.Sets.{meet, join, difference, same};
+ghost use Rattle.bitset.specs.Sets.{meet, join, difference, same, common};
 ghost use Rattle.memory.specs.Cells.{cell, storeCell};
 ghost use Rattle.memory.specs.Scratch.{scratch, Room, Row};
-ghost use Rattle.memory.specs.Sets.{sets, SetsRoom, SetsRow};
+ghost use Rattle.memory.specs.Sets.{sets, SetsRoom, SetsRow, AwaitEntry};
 
 // Each word of row k of scratch becomes v.
 pub fn fill(s: &mut [u64], y: Layout, k: usize, v: u64)
@@ -87,4 +88,24 @@ pub fn same(t: &[u64], y: Layout, k: usize, s: &[u64], d: usize) -> bool
 {
     let w = y.words;
     bitset::same(t, y.sets_start(k), s, y.scratch_start(d), w)
+}
+
+// Whether rows d and k of scratch have a slot in common.
+pub fn common(s: &[u64], y: Layout, d: usize, k: usize) -> bool
+    requires { ⌜ Room y (length (now s)) × Row y d × Row y k ⌝ }
+    ensures { λ r. ⌜ r ≡ common (cell (scratch y (now (s .entry))) d) (cell (scratch y (now (s .entry))) k) ⌝ }
+{
+    let w = y.words;
+    bitset::common(s, y.scratch_start(d), y.scratch_start(k), w)
+}
+
+// The entry k of an await becomes its instruction and row d of scratch.
+pub fn put_await(t: &mut [u64], y: Layout, k: usize, instruction: u64, s: &[u64], d: usize)
+    requires { ⌜ SetsRoom y (length (now t)) × AwaitEntry y k × Room y (length (now s)) × Row y d ⌝ }
+    ensures { λ _. ⌜ sets y (now (t .exit)) ≡ storeCell (sets y (now (t .entry))) k (instruction ∷ cell (scratch y (now (s .entry))) d) ⌝ }
+{
+    let w = y.words;
+    let at = y.sets_start(k);
+    t[at] = instruction;
+    bitset::copy(t, at + 1, s, y.scratch_start(d), w);
 }

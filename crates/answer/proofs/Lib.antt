@@ -1,0 +1,2 @@
+-- Laws of sets as words.
+pub mod WordLaws

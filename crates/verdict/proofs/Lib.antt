@@ -1,0 +1,6 @@
+-- What the run of `check_points` says of a script.
+pub mod RunLaws
+pub mod Sublists
+pub mod PointLaws
+pub mod RetainedLaws
+pub mod Cases

@@ -1,0 +1,104 @@
+-- Lists with some numbers left out. Assumes nothing.
+use mathlib.Core.Path.{_≡_, refl, _∙_, ap}
+use mathlib.Core.Bool.{Bool, true, false}
+use mathlib.Core.List.{List, [], _∷_, _++_, List·Memᴰ, List·Memᴰ·head, List·Memᴰ·tail, List·Memᴰ·not-nil, List·Memᴰ·cases-cons}
+use mathlib.Core.Logic.{_⊎_, inl, inr}
+use Prim.Native.Nat.{ℕ, zero, suc, _+_, _≤_, _<_}
+use native.Mathlib.Omega.{arith}
+use lib.ListN.{length}
+use Rattle.dataflow.specs.Lists.{pick, range, keep}
+use Rattle.verdict.specs.Ascending.{Ascending}
+
+-- the first list is the second with some numbers left out
+pub data Sublist : List ℕ → List ℕ → Type 0 where
+  done : Sublist [] []
+  take : {x : ℕ} {u l : List ℕ} → Sublist u l → Sublist (x ∷ u) (x ∷ l)
+  skip : {x : ℕ} {u l : List ℕ} → Sublist u l → Sublist u (x ∷ l)
+
+-- all left out
+pub sublist-none : (l : List ℕ) → Sublist [] l
+sublist-none [] = done
+sublist-none (x ∷ l) = skip (sublist-none l)
+
+-- none left out
+pub sublist-self : (l : List ℕ) → Sublist l l
+sublist-self [] = done
+sublist-self (x ∷ l) = take (sublist-self l)
+
+-- two lists, one behind the other
+pub sublist-append : {u v l m : List ℕ} → Sublist u l → Sublist v m → Sublist (u ++ v) (l ++ m)
+sublist-append done t = t
+sublist-append (take s) t = take (sublist-append s t)
+sublist-append (skip s) t = skip (sublist-append s t)
+
+-- it has no more numbers,
+pub sublist-length : {u l : List ℕ} → Sublist u l → length u ≤ length l
+sublist-length done = omega arith
+sublist-length (take s) = omega (arith, sublist-length s)
+sublist-length (skip s) = omega (arith, sublist-length s)
+
+-- no other numbers,
+pub sublist-mem : {u l : List ℕ} → Sublist u l → (y : ℕ) → List·Memᴰ y u → List·Memᴰ y l
+sublist-mem done y m = m
+sublist-mem (take {x = x} {u = u} {l = l} s) y m = go (List·Memᴰ·cases-cons m) (λ m′. sublist-mem s y m′)
+  where
+    go : (y ≡ x) ⊎ List·Memᴰ y u → (List·Memᴰ y u → List·Memᴰ y l) → List·Memᴰ y (x ∷ l)
+    go (inl e) below = List·Memᴰ·head e
+    go (inr m′) below = List·Memᴰ·tail (below m′)
+sublist-mem (skip s) y m = List·Memᴰ·tail (sublist-mem s y m)
+
+-- and the same order.
+pub sublist-ascending : {u l : List ℕ} → Sublist u l → Ascending l → Ascending u
+sublist-ascending done h = tt
+sublist-ascending (take s) h = ((λ y m. h .0 y (sublist-mem s y m)), sublist-ascending s (h .1))
+sublist-ascending (skip s) h = sublist-ascending s (h .1)
+
+-- ── Those that pass a test ──
+
+-- what is kept is the list with some left out
+pub keep-sublist : (f : ℕ → Bool) (l : List ℕ) → Sublist (keep f l) l
+keep-sublist f [] = done
+keep-sublist f (x ∷ l) = go (f x) (keep-sublist f l)
+  where
+    go : (t : Bool) → Sublist (keep f l) l → Sublist (pick t (x ∷ keep f l) (keep f l)) (x ∷ l)
+    go true s = take s
+    go false s = skip s
+
+-- what is kept of two lists
+pub keep-append : (f : ℕ → Bool) (l m : List ℕ) → keep f (l ++ m) ≡ keep f l ++ keep f m
+keep-append f [] m = refl
+keep-append f (x ∷ l) m = go (f x) (keep-append f l m)
+  where
+    go : (t : Bool) → keep f (l ++ m) ≡ keep f l ++ keep f m
+        → pick t (x ∷ keep f (l ++ m)) (keep f (l ++ m)) ≡ pick t (x ∷ keep f l) (keep f l) ++ keep f m
+    go true e = ap (λ (z : List ℕ). x ∷ z) e
+    go false e = e
+
+-- what is kept passes the test
+pub keep-passes : (f : ℕ → Bool) (l : List ℕ) (y : ℕ) → List·Memᴰ y (keep f l) → f y ≡ true
+keep-passes f [] y m = absurd (List·Memᴰ·not-nil m)
+keep-passes f (x ∷ l) y m = go (f x) refl m (λ m′. keep-passes f l y m′)
+  where
+    here : f x ≡ true → (y ≡ x) ⊎ List·Memᴰ y (keep f l) → (List·Memᴰ y (keep f l) → f y ≡ true) → f y ≡ true
+    here e (inl q) below = ap f q ∙ e
+    here e (inr m′) below = below m′
+
+    go : (t : Bool) → f x ≡ t → List·Memᴰ y (pick t (x ∷ keep f l) (keep f l)) → (List·Memᴰ y (keep f l) → f y ≡ true) → f y ≡ true
+    go true e m below = here e (List·Memᴰ·cases-cons m) below
+    go false e m below = below m
+
+-- ── Ranges ──
+
+-- the numbers of a range lie in it
+pub range-bounds : (k n y : ℕ) → List·Memᴰ y (range k n) → (k ≤ y) × (y < k + n)
+range-bounds k zero y m = absurd (List·Memᴰ·not-nil m)
+range-bounds k (suc n) y m = go (List·Memᴰ·cases-cons m) (λ m′. range-bounds (suc k) n y m′)
+  where
+    go : (y ≡ k) ⊎ List·Memᴰ y (range (suc k) n) → (List·Memᴰ y (range (suc k) n) → (suc k ≤ y) × (y < suc k + n)) → (k ≤ y) × (y < k + suc n)
+    go (inl e) below = (omega (arith, e), omega (arith, e))
+    go (inr m′) below = let z = below m′ in (omega (arith, z .0), omega (arith, z .1))
+
+-- and ascend
+pub range-ascending : (k n : ℕ) → Ascending (range k n)
+range-ascending k zero = tt
+range-ascending k (suc n) = ((λ y m. range-bounds (suc k) n y m .0), range-ascending (suc k) n)

@@ -1,0 +1,3 @@
+-- `check_points` as a run, charge by charge.
+pub mod Points
+pub mod Ascending
