@@ -1,0 +1,62 @@
+-- What the call leaves in each lent buffer.
+use mathlib.Core.Bool.{Bool}
+use mathlib.Core.List.{List, [], _∷_, _++_}
+use Prim.Native.Nat.{ℕ, suc, _+_, _*_, _-_, _/_}
+use lib.ListN.{length, getD, replicate}
+use Rattle.dataflow.specs.Lists.{range}
+use Rattle.dataflow.specs.Code.{Instruction, leaders, blockSuccessors}
+use Rattle.dataflow.specs.Results.{reachable, initExit, liveEntry}
+use Rattle.budget.specs.declared.FlowBudget.{FlowBudget}
+use Rattle.budget.specs.declared.Limits.{Limits}
+use Rattle.memory.specs.Names.{flag}
+use Rattle.sheet.specs.Decode.{partsOf}
+use Rattle.script.specs.Script.{flowCode, parameterIn}
+use Rattle.verdict.specs.Points.{Point, points}
+use Rattle.answer.specs.Words.{wordsOf}
+use Rattle.outcome.specs.Outcome.{Lengths, Outcome, accepted, refused, outcomeOf}
+
+-- the answer, then zeros, n words in all
+abbrev pub padded : ℕ → List ℕ → List ℕ
+padded n l = l ++ replicate (n - length l) 0
+
+-- f of each of the numbers, one after the other
+abbrev pub joined : {A : Type 0} → (A → List ℕ) → List A → List ℕ
+joined f [] = []
+joined f (a ∷ l) = f a ++ joined f l
+
+module _ (code : List Instruction) (parameter : ℕ → Bool) (words : ℕ) where
+  -- document 01, a block record: start, end, reachable, successor count, two successors (unused ones 0)
+  abbrev pub blockRecord : ℕ → List ℕ
+  blockRecord c =
+      getD (leaders code) c (length code) ∷ getD (leaders code) (suc c) (length code) ∷ flag (reachable code c) ∷ length (blockSuccessors code c)
+      ∷ getD (blockSuccessors code c) 0 0 ∷ getD (blockSuccessors code c) 1 0 ∷ []
+
+  -- "per block initialized at its exit, then live at its entry"
+  abbrev pub blockSets : ℕ → List ℕ
+  blockSets c = wordsOf words (initExit code parameter words c) ++ wordsOf words (liveEntry code parameter words c)
+
+  -- "then per reachable await, ascending, its instruction and live words"
+  abbrev pub awaitWords : Point → List ℕ
+  awaitWords p = p .instruction ∷ wordsOf words (p .live)
+
+module _ (s : List ℕ) where
+  -- the words of the block list, six a record, and of the sets buffer, for so many blocks
+  abbrev pub blockList : ℕ → ℕ → List ℕ
+  blockList words blocks = joined (blockRecord (flowCode (partsOf s)) (parameterIn (partsOf s)) words) (range 0 blocks)
+
+  abbrev pub setWords : ℕ → ℕ → List ℕ
+  setWords words blocks =
+      joined (blockSets (flowCode (partsOf s)) (parameterIn (partsOf s)) words) (range 0 blocks)
+      ++ joined (awaitWords (flowCode (partsOf s)) (parameterIn (partsOf s)) words) (points (flowCode (partsOf s)) (parameterIn (partsOf s)) words)
+
+  -- "After a refusal all lent memory is zero. After acceptance scratch is zero, and so is what lies past the answer."
+  abbrev pub listAfter : Lengths → Outcome → List ℕ
+  listAfter n (accepted id blocks awaits b) = padded (6 * n .records) (blockList ((partsOf s .slots + 63) / 64) blocks)
+  listAfter n (refused r id b) = replicate (6 * n .records) 0
+
+  abbrev pub setsAfter : Lengths → Outcome → List ℕ
+  setsAfter n (accepted id blocks awaits b) = padded (n .sets) (setWords ((partsOf s .slots + 63) / 64) blocks)
+  setsAfter n (refused r id b) = replicate (n .sets) 0
+
+  abbrev pub scratchAfter : Lengths → List ℕ
+  scratchAfter n = replicate (n .scratch) 0
