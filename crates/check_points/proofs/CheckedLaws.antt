@@ -1,0 +1,325 @@
+-- `check_block` and `check_reached`: what the calls for one block require, and the answer for each way out. Assumes nothing.
+use mathlib.Core.Path.{_≡_, refl, sym, ap, subst, _∙_}
+use mathlib.Core.Bool.{Bool, true, false, false≢true}
+use mathlib.Core.List.{List, []}
+use mathlib.Core.Logic.{_⊎_, inl, inr}
+use Prim.Native.Nat.{ℕ, _+_, _-_, _*_, _^_, _≤_, _<_}
+use native.Mathlib.Omega.{arith}
+use lib.ListN.{length, getD}
+use denote.Enum.Declared.{tagOf}
+use Rattle.dataflow.specs.Lists.{pick, range, keep}
+use Rattle.dataflow.specs.Code.{body}
+use Rattle.dataflow.specs.Results.{reachable, initEntry, liveExit}
+use Rattle.dataflow.specs.Verdict.{awaitAt}
+use Rattle.budget.specs.declared.FlowBudget.{FlowBudget}
+use Rattle.budget.specs.declared.Limits.{Limits}
+use Rattle.memory.specs.Cells.{Mem, cell, word, storeCell}
+use Rattle.memory.specs.Names.{flag, startCell, endCell, reachableCell, stateRow, liveStateRow}
+use Rattle.memory.specs.Scratch.{scratch, Room}
+use Rattle.memory.specs.Sets.{sets, SetsRoom}
+use Rattle.memory.specs.declared.layout.Layout.{Layout}
+use Rattle.sheet.specs.declared.script.Script.{Script}
+use Rattle.sheet.specs.Decode.{partsOf}
+use Rattle.script.specs.Script.{parameterIn, hostIn}
+use Rattle.solver.specs.declared.direction.Direction.the-variants.{Initialization, Liveness}
+use Rattle.solver.specs.Neighbors.{Connected}
+use Rattle.solver.specs.Transfer.{runningRow, gathered}
+use Rattle.answer.specs.Words.{Means}
+use Rattle.verdict.specs.Points.{Checking, on, andThen, Point, readsRun, awaitsRun, blockRun, awaitPoints}
+use Rattle.points.specs.declared.awaits.Points.{Points}
+use Rattle.points.specs.declared.awaits.Points.the-variants.{Passed, Refused}
+use Rattle.points.specs.declared.reads.Reads.{Reads}
+use Rattle.points.specs.declared.reads.Reads.the-variants.{Filled, Unfilled, Over}
+use Rattle.points.proofs.reads.Reads.{the-type}
+use Rattle.points.specs.Rows.{Coded, awaitsAmong, readsOf, pointsOf, Entries, ReadsChecked, AwaitsChecked}
+use Rattle.check_points.specs.CheckPoints.{codeOf, Solved, factsOf, Facing, refusedBy, raisedTo, BlockChecked}
+use Rattle.check_points.proofs.SolvedLaws.{RunningOnly, running-then, solved-kept, reads-others, gather-others, solved-connected}
+use Rattle.check_points.proofs.SolvedLaws.{incoming-means, live-out-means}
+use Rattle.check_points.proofs.SpanLaws.{Span, spans, points-length}
+
+-- ---- answers
+
+-- the entry in an answer that passed
+abbrev placeOf : ℕ → Points → ℕ
+placeOf d (Passed n b) = n
+placeOf d (Refused r b) = d
+
+-- and the budget
+abbrev budgetOf : FlowBudget → Points → FlowBudget
+budgetOf d (Passed n b) = b
+budgetOf d (Refused r b) = d
+
+-- answers that passed with the same
+pub same-place : {n n′ : ℕ} {b b′ : FlowBudget} → Passed n b ≡ Passed n′ b′ → n ≡ n′
+same-place {n} e = ap (placeOf n) e
+
+-- and the same budget
+pub same-budget : {n n′ : ℕ} {b b′ : FlowBudget} → Passed n b ≡ Passed n′ b′ → b ≡ b′
+same-budget {b = b} e = ap (budgetOf b) e
+
+-- whether an answer passed
+abbrev passed : Points → Bool
+passed (Passed n b) = true
+passed (Refused r b) = false
+
+-- the reads are not filled
+abbrev pub NotFilled : Reads → Type 0
+NotFilled r = (n : ℕ) (left : FlowBudget) → r ≡ Filled n left → ⊥
+
+-- by the variants that are left
+pub not-filled : (r : Reads) → (tagOf the-type r ≡ 1) ⊎ (tagOf the-type r ≡ 2) → NotFilled r
+not-filled r t n left e = go (subst (λ (q : Reads). (tagOf the-type q ≡ 1) ⊎ (tagOf the-type q ≡ 2)) e t)
+  where
+    go : (tagOf the-type (Filled n left) ≡ 1) ⊎ (tagOf the-type (Filled n left) ≡ 2) → ⊥
+    go (inl q) = omega arith
+    go (inr q) = omega arith
+
+-- then the run stops there, whatever was to follow
+unfilled-stops : (r : Reads) → NotFilled r → (f : FlowBudget → Checking) → pointsOf (refusedBy r) ≡ andThen (readsOf r) f
+unfilled-stops (Filled n b) h f = absurd (h n b refl)
+unfilled-stops (Unfilled b) h f = refl
+unfilled-stops (Over b) h f = refl
+
+-- an answer of the reads that refuses is none that passed
+refused-not-passed : (r : Reads) {n : ℕ} {left : FlowBudget} → refusedBy r ≡ Passed n left → ⊥
+refused-not-passed (Filled k b) e = false≢true (ap passed e)
+refused-not-passed (Unfilled b) e = false≢true (ap passed e)
+refused-not-passed (Over b) e = false≢true (ap passed e)
+
+-- the answer of a run does not say how many awaits are reached
+raised-answer : (next : ℕ) (q : Points) → pointsOf (raisedTo next q) ≡ pointsOf q
+raised-answer next (Passed n b) = refl
+raised-answer next (Refused r b) = refl
+
+-- an answer that passed, before it is raised
+raised-place : (next : ℕ) (q : Points) {n : ℕ} {left : FlowBudget} → raisedTo next q ≡ Passed n left
+    → (k : ℕ) × (q ≡ Passed k left) × (next ≡ n)
+raised-place next (Passed k b) e = (k, ap (Passed k) (same-budget e), same-place e)
+raised-place next (Refused r b) e = absurd (false≢true (ap passed e))
+
+-- ---- the parts of a block's run
+
+-- what is initialized at a block's entry
+abbrev pub entrySet : List ℕ → ℕ → ℕ → ℕ → Bool
+entrySet s words c = initEntry (codeOf s) (parameterIn (partsOf s)) words c
+
+-- what is live at its exit
+abbrev pub exitSet : List ℕ → ℕ → ℕ → ℕ → Bool
+exitSet s words c = liveExit (codeOf s) (parameterIn (partsOf s)) words c
+
+-- its reads
+abbrev pub blockReads : List ℕ → Layout → Limits → ℕ → FlowBudget → Checking
+blockReads s y l c b = readsRun (codeOf s) (parameterIn (partsOf s)) l (entrySet s (y .words) c) (body (codeOf s) c) b
+
+-- its awaits
+abbrev pub blockAwaits : List ℕ → Script → Layout → Limits → ℕ → FlowBudget → Checking
+blockAwaits s x y l c =
+    awaitsRun (codeOf s) (parameterIn (partsOf s)) l (y .words) (x .slots) (hostIn (partsOf s)) (exitSet s (y .words) c) (body (codeOf s) c)
+
+-- and their facts
+abbrev pub blockFacts : List ℕ → Layout → ℕ → List Point
+blockFacts s y c = awaitPoints (codeOf s) (parameterIn (partsOf s)) (exitSet s (y .words) c) (body (codeOf s) c)
+
+-- ---- a block that is not reachable
+
+module _ {s : List ℕ} {x : Script} {y : Layout} {c place : ℕ} {m t : Mem} (h : Facing s x y c place m t) {v : ℕ}
+    (e : v ≡ word m reachableCell c) where
+  -- the word REACHABLE is the mark
+  mark-is : v ≡ flag (reachable (codeOf s) c)
+  mark-is = e ∙ h .solved .flows .reached c (h .inside)
+
+  -- it is not 0 if the block is reachable
+  pub is-reached : (v ≡ 0 → ⊥) → reachable (codeOf s) c ≡ true
+  is-reached ne = go (reachable (codeOf s) c) mark-is
+    where
+      go : (r : Bool) → v ≡ flag r → r ≡ true
+      go true q = refl
+      go false q = absurd (ne q)
+
+  -- it is 0 if not
+  not-reached : v ≡ 0 → reachable (codeOf s) c ≡ false
+  not-reached z = go (reachable (codeOf s) c) mark-is
+    where
+      go : (r : Bool) → v ≡ flag r → r ≡ false
+      go false q = refl
+      go true q = absurd (let one : v ≡ 1 = q in omega arith)
+
+  -- and then it passes, and nothing changes
+  pub block-passed : (l : Limits) (b : FlowBudget) → v ≡ 0 → BlockChecked s x y l b c place m m t t (Passed place b)
+  unfolding blockRun
+  block-passed l b z = record {
+    answer = ap (λ (r : Bool). pick r (andThen (blockReads s y l c b) (blockAwaits s x y l c)) (on b)) (sym (not-reached z));
+    count = λ n left q. sym (same-place q) ∙ (let k : place ≡ place + length none = omega arith in k)
+        ∙ ap (λ (ps : List Point). place + length ps) (sym facts);
+    entries = λ n left q. subst (λ (ps : List Point). Entries y t place ps) (sym facts) tt;
+    earlier = λ n left q k lt. refl;
+    others = λ k a d. refl;
+  }
+    where
+      none : List Point
+      none = []
+
+      facts : factsOf s (y .words) c ≡ none
+      facts = ap (λ (r : Bool). pick r (blockFacts s y c) none) (not-reached z)
+
+-- ---- a block that is reachable
+
+-- its reads may be checked: the running state stands for what is initialized at its entry
+pub record Entered (s : List ℕ) (x : Script) (y : Layout) (c place start end : ℕ) (m₀ m t : Mem) : Type 0 where
+  pub solved : Solved s x y m t
+  pub inside : c < y .blocks
+  pub room : place + length (factsOf s (y .words) c) ≤ y .awaits
+  pub reached : reachable (codeOf s) c ≡ true
+  pub span : Span s y c start end
+  pub means : Means (y .words) (cell m (stateRow (y .blocks))) (entrySet s (y .words) c)
+  pub others : RunningOnly y m₀ m
+
+-- its awaits may be checked: the reads are filled, and the running live set stands for what is live at its exit
+pub record Leaving (s : List ℕ) (x : Script) (y : Layout) (l : Limits) (b : FlowBudget) (c place start end found : ℕ) (left : FlowBudget)
+    (m₀ m t : Mem) : Type 0 where
+  pub coded : Coded s x y m
+  pub reached : reachable (codeOf s) c ≡ true
+  pub span : Span s y c start end
+  pub found-are : found ≡ awaitsAmong (codeOf s) start end
+  pub room : place + found ≤ y .awaits
+  pub filled : on left ≡ blockReads s y l c b
+  pub means : Means (y .words) (cell m (liveStateRow (y .blocks))) (exitSet s (y .words) c)
+  pub others : RunningOnly y m₀ m
+
+-- the first gathering, and the words START and END
+pub entered : {s : List ℕ} {x : Script} {y : Layout} {c place : ℕ} (w u : List ℕ) → Room y (length w) → ((i : ℕ) → getD w i 0 < 2 ^ 64)
+    → SetsRoom y (length u) → ((i : ℕ) → getD u i 0 < 2 ^ 64) → Facing s x y c place (scratch y w) (sets y u) → reachable (codeOf s) c ≡ true
+    → {m : Mem} → m ≡ storeCell (scratch y w) (runningRow Initialization y) (gathered Initialization y (scratch y w) (sets y u) c)
+    → {start end : ℕ} → start ≡ word m startCell c → end ≡ word m endCell c → Entered s x y c place start end (scratch y w) m (sets y u)
+entered {s} {x} {y} {c} {place} w u room fits more fit h e {m} g {start} {end} p q = record {
+  solved = kept;
+  inside = h .inside;
+  room = h .room;
+  reached = e;
+  span = spans kept c (h .inside) p q;
+  means = incoming-means w u room fits more fit (h .solved) c (h .inside) g;
+  others = only;
+}
+  where
+    only : RunningOnly y (scratch y w) m
+    only = gather-others Initialization (gathered Initialization y (scratch y w) (sets y u) c) g
+
+    kept : Solved s x y m (sets y u)
+    kept = solved-kept only (h .solved)
+
+-- the run of a reachable block: its reads, then its awaits
+run-reached : (s : List ℕ) (x : Script) (y : Layout) (l : Limits) (b : FlowBudget) (c : ℕ) → reachable (codeOf s) c ≡ true
+    → blockRun (codeOf s) (parameterIn (partsOf s)) l (y .words) (x .slots) (hostIn (partsOf s)) c b
+    ≡ andThen (blockReads s y l c b) (blockAwaits s x y l c)
+unfolding blockRun
+run-reached s x y l b c e =
+    ap (λ (r : Bool). pick r (andThen (blockReads s y l c b) (blockAwaits s x y l c)) (on b)) e
+
+-- the awaits of a reachable block are among its instructions
+facts-among : {s : List ℕ} {y : Layout} {c start end : ℕ} → reachable (codeOf s) c ≡ true → Span s y c start end
+    → length (factsOf s (y .words) c) ≡ awaitsAmong (codeOf s) start end
+facts-among {s} {y} {c} e h =
+    ap (λ (r : Bool). length (pick r (blockFacts s y c) [])) e
+    ∙ points-length (codeOf s) (parameterIn (partsOf s)) (exitSet s (y .words) c) (body (codeOf s) c)
+    ∙ ap (λ (is : List ℕ). length (keep (awaitAt (codeOf s)) is)) (h .is)
+
+module _ {s : List ℕ} {x : Script} {y : Layout} {l : Limits} {b : FlowBudget} {c place start end : ℕ} {m₀ m m₁ t : Mem} {r : Reads}
+    (h : Entered s x y c place start end m₀ m t)
+    (p : ReadsChecked (codeOf s) (parameterIn (partsOf s)) y l b start end m m₁ r) where
+  -- the reads' answer is that of the run
+  reads-answer : readsOf r ≡ blockReads s y l c b
+  reads-answer =
+      p .answer (entrySet s (y .words) c) (h .means)
+      ∙ ap (λ (is : List ℕ). readsRun (codeOf s) (parameterIn (partsOf s)) l (entrySet s (y .words) c) is b)
+      (sym (h .span .is))
+
+  -- what the words hold stays, so that the edges may be read again
+  reads-solved : Solved s x y m₁ t
+  reads-solved = solved-kept (reads-others p) (h .solved)
+
+  -- which the second gathering requires
+  pub reads-connected : Connected y m₁
+  reads-connected = solved-connected reads-solved
+
+  -- the entries of its awaits are there
+  pub reads-room : {found : ℕ} {left : FlowBudget} → r ≡ Filled found left → place + found ≤ y .awaits
+  reads-room {found} {left} e = omega (arith, h .room, facts-among (h .reached) (h .span), p .counted found left e)
+
+  -- a read is not filled, or a charge crossed the limit
+  pub reads-refused : NotFilled r → {q : Points} → q ≡ refusedBy r → BlockChecked s x y l b c place m₀ m₁ t t q
+  reads-refused f {q} e = record {
+    answer = ap pointsOf e ∙ unfilled-stops r f (blockAwaits s x y l c) ∙ ap (λ (z : Checking). andThen z (blockAwaits s x y l c)) reads-answer
+        ∙ sym (run-reached s x y l b c (h .reached));
+    count = λ n left z. absurd (refused-not-passed r (sym e ∙ z));
+    entries = λ n left z. absurd (refused-not-passed r (sym e ∙ z));
+    earlier = λ n left z. absurd (refused-not-passed r (sym e ∙ z));
+    others = running-then (h .others) (reads-others p) .others;
+  }
+
+-- the second gathering, after reads that are filled
+pub leaving : {s : List ℕ} {x : Script} {y : Layout} {l : Limits} {b : FlowBudget} {c place start end : ℕ} {m₀ m : Mem} {r : Reads} (w u : List ℕ)
+    → Room y (length w) → ((i : ℕ) → getD w i 0 < 2 ^ 64) → SetsRoom y (length u) → ((i : ℕ) → getD u i 0 < 2 ^ 64)
+    → Entered s x y c place start end m₀ m (sets y u) → ReadsChecked (codeOf s) (parameterIn (partsOf s)) y l b start end m (scratch y w) r
+    → {found : ℕ} {left : FlowBudget} → r ≡ Filled found left
+    → {m′ : Mem} → m′ ≡ storeCell (scratch y w) (runningRow Liveness y) (gathered Liveness y (scratch y w) (sets y u) c)
+    → Leaving s x y l b c place start end found left m₀ m′ (sets y u)
+leaving {s} {x} {y} {l} {b} {c} w u room fits more fit h p {found} {left} e {m′} g = record {
+  coded = solved-kept only (reads-solved h p) .coded;
+  reached = h .reached;
+  span = h .span;
+  found-are = p .counted found left e;
+  room = reads-room h p e;
+  filled = sym (ap readsOf e) ∙ reads-answer h p;
+  means = live-out-means w u room fits more fit (reads-solved h p) c (h .inside) g;
+  others = running-then (running-then (h .others) (reads-others p)) only;
+}
+  where
+    only : RunningOnly y (scratch y w) m′
+    only = gather-others Liveness (gathered Liveness y (scratch y w) (sets y u) c) g
+
+-- the points of a reachable block, by its span
+facts-are : {s : List ℕ} {y : Layout} {c start end : ℕ} → reachable (codeOf s) c ≡ true → Span s y c start end
+    → factsOf s (y .words) c ≡ awaitPoints (codeOf s) (parameterIn (partsOf s)) (exitSet s (y .words) c) (range start (end - start))
+facts-are {s} {y} {c} e h =
+    ap (λ (r : Bool). pick r (blockFacts s y c) []) e
+    ∙ ap (awaitPoints (codeOf s) (parameterIn (partsOf s)) (exitSet s (y .words) c)) (h .is)
+
+module _ {s : List ℕ} {x : Script} {y : Layout} {l : Limits} {b left : FlowBudget} {c place start end found : ℕ} {m₀ m t : Mem}
+    (h : Leaving s x y l b c place start end found left m₀ m t) where
+  -- the entries of its awaits end where they are put before
+  pub leaving-among : awaitsAmong (codeOf s) start end ≤ place + found
+  leaving-among = omega (arith, h .found-are)
+
+  -- its awaits are checked: the answer is the block's, with how many awaits are reached up to its end
+  pub awaits-raised : {m′ t′ : Mem} {q r : Points} → AwaitsChecked s x y l left start end (place + found) m m′ t t′ q → r ≡ raisedTo (place + found) q
+      → BlockChecked s x y l b c place m₀ m′ t t′ r
+  awaits-raised {m′} {t′} {q} {r} p e = record {
+    answer = ap pointsOf e ∙ raised-answer (place + found) q ∙ awaits-answer
+        ∙ ap (λ (z : Checking). andThen z (blockAwaits s x y l c)) (h .filled) ∙ sym (run-reached s x y l b c (h .reached));
+    count = λ n last z. let v = raised-place (place + found) q (sym e ∙ z) in
+        sym (v .2) ∙ ap (λ (k : ℕ). place + k) (h .found-are ∙ sym (facts-among (h .reached) (h .span)));
+    entries = λ n last z. let v = raised-place (place + found) q (sym e ∙ z) in
+        subst (λ (ps : List Point). Entries y t′ place ps) (sym (facts-are (h .reached) (h .span)))
+        (subst (λ (k : ℕ). Entries y t′ k (awaitPoints (codeOf s) (parameterIn (partsOf s)) live (range start (end - start))))
+        (begins (v .0) last (v .1)) (p .entries (v .0) last (v .1) live (h .means)));
+    earlier = λ n last z k lt. let v = raised-place (place + found) q (sym e ∙ z) in
+        p .other-sets (v .0) last (v .1) k (omega (arith, lt, begins (v .0) last (v .1)));
+    others = running-then (h .others) only .others;
+  }
+    where
+      live : ℕ → Bool
+      live = exitSet s (y .words) c
+
+      awaits-answer : pointsOf q ≡ blockAwaits s x y l c left
+      awaits-answer =
+          p .answer live (h .means)
+          ∙ ap (λ (is : List ℕ). awaitsRun (codeOf s) (parameterIn (partsOf s)) l (y .words) (x .slots) (hostIn (partsOf s)) live is left)
+          (sym (h .span .is))
+
+      -- the awaits change the running live set alone
+      only : RunningOnly y m m′
+      only = record { others = λ k a d. p .others k d }
+
+      -- where the entries begin
+      begins : (k : ℕ) (last : FlowBudget) → q ≡ Passed k last → k ≡ place
+      begins k last z = omega (arith, p .places k last z, h .found-are)

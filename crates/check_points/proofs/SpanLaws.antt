@@ -1,0 +1,199 @@
+-- Where a block lies in the code, and that its awaits are counted once: all blocks together have no more points than the code has awaits.
+-- Assumes nothing.
+use mathlib.Core.Path.{_≡_, refl, sym, ap, ap₂, subst, _∙_}
+use mathlib.Core.Bool.{Bool, true, false, true≢false, false≢true}
+use mathlib.Core.List.{List, [], _∷_, _++_, map, append-assoc}
+use Prim.Native.Nat.{ℕ, zero, suc, _+_, _-_, _≤_, _<_}
+use native.Mathlib.Nat.{add-zero, zero-add}
+use native.Mathlib.Omega.{arith}
+use lib.ListN.{length, getD, length-append}
+use Rattle.dataflow.specs.Lists.{pick, range, keep}
+use Rattle.dataflow.specs.Analyses.{liveAlong}
+use Rattle.dataflow.specs.Blocks.{pointsOf}
+use Rattle.dataflow.specs.Code as flow
+use Rattle.dataflow.specs.Code.{leader, leaders, body, blockGraph, outside}
+use Rattle.dataflow.specs.Results.{blockCount, reachable, liveExit}
+use Rattle.dataflow.specs.Verdict.{awaitAt}
+use Rattle.dataflow.proofs.Leaders.{leaders-are, block-range, blocks-cover}
+use Rattle.operands.specs.Kinds.{isAwait}
+use Rattle.memory.specs.Cells.{Mem, word}
+use Rattle.memory.specs.Names.{startCell, endCell}
+use Rattle.memory.specs.declared.layout.Layout.{Layout}
+use Rattle.sheet.specs.declared.script.Script.{Script}
+use Rattle.sheet.specs.Decode.{Instruction, partsOf}
+use Rattle.sheet.specs.Checks.{awaitsIn}
+use Rattle.instructions.specs.Sound.{Sound}
+use Rattle.script.specs.Script.{flowInstruction, flowCode, parameterIn}
+use Rattle.script.proofs.ScriptLaws.{code-length}
+use Rattle.fixed_points.proofs.Bits.{map-at}
+use Rattle.verdict.specs.Points.{Point, awaitPoints, blockPoints, points}
+use Rattle.check_points.specs.CheckPoints.{codeOf, Solved}
+
+-- ---- where a block lies
+
+-- a leader, or the end of the code, is at most the end of the code
+keep-below : (f : ℕ → Bool) (k m n : ℕ) → k + m ≤ n → (i : ℕ) → getD (keep f (range k m)) i n ≤ n
+keep-below f k zero n h i = omega arith
+keep-below f k (suc m) n h i = go (f k) i (keep-below f (suc k) m n (omega arith))
+  where
+    go : (t : Bool) (i : ℕ) → ((j : ℕ) → getD (keep f (range (suc k) m)) j n ≤ n)
+        → getD (pick t (k ∷ keep f (range (suc k) m)) (keep f (range (suc k) m))) i n ≤ n
+    go false i r = r i
+    go true zero r = omega arith
+    go true (suc i) r = r i
+
+-- of any code
+leaders-below : (code : List flow.Instruction) (i : ℕ) → getD (leaders code) i (length code) ≤ length code
+leaders-below code i =
+    subst (λ (l : List ℕ). getD l i (length code) ≤ length code) (sym (leaders-are code))
+    (keep-below (leader code) 0 (length code) (length code) (omega arith) i)
+
+-- block c is the instructions from start to end
+pub record Span (s : List ℕ) (y : Layout) (c start end : ℕ) : Type 0 where
+  pub ordered : start ≤ end
+  pub inside : end ≤ y .instructions
+  pub is : body (codeOf s) c ≡ range start (end - start)
+
+-- so the words START and END say
+pub spans : {s : List ℕ} {x : Script} {y : Layout} {m t : Mem} → Solved s x y m t → (c : ℕ) → c < y .blocks → {start end : ℕ}
+    → start ≡ word m startCell c → end ≡ word m endCell c → Span s y c start end
+spans {s} {x} {y} p c lc {start} {end} e f = record {
+  ordered = omega (arith, first, last, size);
+  inside = omega (arith, last, leaders-below (codeOf s) (suc c), code-length s x (p .coded .sound), p .coded .instructions);
+  is = block .0 ∙ ap₂ range (sym first) (let n : length (body (codeOf s) c) ≡ end - start = omega (arith, first, last, size) in n);
+}
+  where
+    block : (body (codeOf s) c ≡ range (getD (leaders (codeOf s)) c (length (codeOf s))) (length (body (codeOf s) c)))
+        × (getD (leaders (codeOf s)) c (length (codeOf s)) + length (body (codeOf s) c) ≡ getD (leaders (codeOf s)) (suc c) (length (codeOf s)))
+    block = block-range (codeOf s) c (subst (λ (n : ℕ). c < n) (p .flows .blocks) lc)
+
+    first : start ≡ getD (leaders (codeOf s)) c (length (codeOf s))
+    first = e ∙ p .starts c lc
+
+    last : end ≡ getD (leaders (codeOf s)) (suc c) (length (codeOf s))
+    last = f ∙ p .ends c lc
+
+    size : getD (leaders (codeOf s)) c (length (codeOf s)) + length (body (codeOf s) c) ≡ getD (leaders (codeOf s)) (suc c) (length (codeOf s))
+    size = block .1
+
+-- ---- the awaits of a list
+
+module _ (code : List flow.Instruction) (parameter : ℕ → Bool) where
+  -- a point for each await
+  pub points-length : (g : ℕ → Bool) (is : List ℕ) → length (awaitPoints code parameter g is) ≡ length (keep (awaitAt code) is)
+  unfolding awaitPoints
+  points-length g [] = refl
+  points-length g (i ∷ is) = go (awaitAt code i) (points-length g is)
+    where
+      point : Point
+      point = record { instruction = i; live = λ s. liveAlong (flow.program code parameter) s (g s) (i ∷ is) }
+
+      go : (t : Bool) → length (awaitPoints code parameter g is) ≡ length (keep (awaitAt code) is)
+          → length (pick t (point ∷ awaitPoints code parameter g is) (awaitPoints code parameter g is))
+          ≡ length (pick t (i ∷ keep (awaitAt code) is) (keep (awaitAt code) is))
+      go true e = ap suc e
+      go false e = e
+
+  -- ---- the awaits of lists one after the other
+
+  -- those kept of two lists
+  keep-append : (f : ℕ → Bool) (a b : List ℕ) → length (keep f (a ++ b)) ≡ length (keep f a) + length (keep f b)
+  keep-append f [] b = omega arith
+  keep-append f (i ∷ a) b = go (f i) (keep-append f a b)
+    where
+      go : (t : Bool) → length (keep f (a ++ b)) ≡ length (keep f a) + length (keep f b)
+          → length (pick t (i ∷ keep f (a ++ b)) (keep f (a ++ b))) ≡ length (pick t (i ∷ keep f a) (keep f a)) + length (keep f b)
+      go true e = omega (arith, e)
+      go false e = e
+
+  -- the points of blocks are no more than the awaits of their instructions
+  blocks-few : (words : ℕ) (cs : List ℕ) → length (blockPoints code parameter words cs) ≤ length (keep (awaitAt code) (pointsOf (blockGraph code) cs))
+  unfolding blockPoints
+  blocks-few words [] = omega arith
+  blocks-few words (c ∷ cs) = go (reachable code c) (blocks-few words cs)
+    where
+      facts : List Point
+      facts = awaitPoints code parameter (liveExit code parameter words c) (body code c)
+
+      go : (t : Bool) → length (blockPoints code parameter words cs) ≤ length (keep (awaitAt code) (pointsOf (blockGraph code) cs))
+          → length (pick t facts [] ++ blockPoints code parameter words cs)
+          ≤ length (keep (awaitAt code) (body code c ++ pointsOf (blockGraph code) cs))
+      go true h = omega (
+        arith,
+        h,
+        length-append facts (blockPoints code parameter words cs),
+        points-length (liveExit code parameter words c) (body code c),
+        keep-append (awaitAt code) (body code c) (pointsOf (blockGraph code) cs),
+      )
+      go false h = omega (arith, h, keep-append (awaitAt code) (body code c) (pointsOf (blockGraph code) cs))
+
+  -- ---- the blocks in turn
+
+  -- the points of blocks, and then of more
+  pub blocks-append : (words : ℕ) (a b : List ℕ)
+      → blockPoints code parameter words (a ++ b) ≡ blockPoints code parameter words a ++ blockPoints code parameter words b
+  unfolding blockPoints
+  blocks-append words [] b = refl
+  blocks-append words (c ∷ a) b =
+      ap (λ (l : List Point). facts ++ l) (blocks-append words a b)
+      ∙ sym (append-assoc facts (blockPoints code parameter words a) (blockPoints code parameter words b))
+    where
+      facts : List Point
+      facts = pick (reachable code c) (awaitPoints code parameter (liveExit code parameter words c) (body code c)) []
+
+-- numbers in turn, and then more
+pub range-append : (k m n : ℕ) → range k (m + n) ≡ range k m ++ range (k + m) n
+range-append k zero n = ap₂ range (sym (add-zero k)) (zero-add n)
+range-append k (suc m) n =
+    let e : k + suc m ≡ suc k + m = omega arith in
+    let f : suc m + n ≡ suc (m + n) = omega arith in
+    rw (e, f) (ap (λ (l : List ℕ). k ∷ l) (range-append (suc k) m n))
+
+-- ---- the awaits of the whole code
+
+-- the instructions from k on that are awaits, as they are counted in the sheet
+awaits-counted : (code : List flow.Instruction) (k : ℕ) (is : List Instruction)
+    → ((j : ℕ) → j < length is → awaitAt code (k + j) ≡ isAwait (getD is j (record { kind = 0; fields = [] }) .kind))
+    → length (keep (awaitAt code) (range k (length is))) ≡ awaitsIn is
+unfolding awaitsIn
+awaits-counted code k [] h = refl
+awaits-counted code k (i ∷ is) h = go (awaitAt code k) (isAwait (i .kind)) same
+    (awaits-counted code (suc k) is (λ j lt. ap (awaitAt code) (let e : suc k + j ≡ k + suc j = omega arith in e) ∙ h (suc j) (omega arith)))
+  where
+    same : awaitAt code k ≡ isAwait (i .kind)
+    same = ap (awaitAt code) (sym (add-zero k)) ∙ h 0 (omega arith)
+
+    go : (t u : Bool) → t ≡ u → length (keep (awaitAt code) (range (suc k) (length is))) ≡ awaitsIn is
+        → length (pick t (k ∷ keep (awaitAt code) (range (suc k) (length is))) (keep (awaitAt code) (range (suc k) (length is))))
+        ≡ pick u 1 0 + awaitsIn is
+    go true true e r = omega (arith, r)
+    go false false e r = omega (arith, r)
+    go true false e r = absurd (true≢false e)
+    go false true e r = absurd (false≢true e)
+
+-- there are as many as the script says
+code-awaits : (s : List ℕ) (x : Script) → Sound s x → length (keep (awaitAt (codeOf s)) (range 0 (length (codeOf s)))) ≡ x .awaits
+unfolding flowCode
+code-awaits s x h =
+    ap (λ (n : ℕ). length (keep (awaitAt (codeOf s)) (range 0 n))) (map-length (partsOf s .code))
+    ∙ awaits-counted (codeOf s) 0 (partsOf s .code) at ∙ sym (h .awaits-are)
+  where
+    map-length : (l : List Instruction) → length (map flowInstruction l) ≡ length l
+    map-length [] = refl
+    map-length (i ∷ l) = ap suc (map-length l)
+
+    at : (j : ℕ) → j < length (partsOf s .code)
+        → awaitAt (codeOf s) (0 + j) ≡ isAwait (getD (partsOf s .code) j (record { kind = 0; fields = [] }) .kind)
+    at j lt =
+        ap (awaitAt (codeOf s)) (zero-add j)
+        ∙ ap (λ (i : flow.Instruction). i .isAwait) (map-at flowInstruction (partsOf s .code) j (record { kind = 0; fields = [] }) outside lt)
+
+-- the points are no more than the awaits
+pub points-few : (s : List ℕ) (x : Script) → Sound s x → (words : ℕ) → length (points (codeOf s) (parameterIn (partsOf s)) words) ≤ x .awaits
+unfolding points
+points-few s x h words = omega (
+  arith,
+  blocks-few (codeOf s) (parameterIn (partsOf s)) words (range 0 (blockCount (codeOf s))),
+  ap (λ (l : List ℕ). length (keep (awaitAt (codeOf s)) l)) (blocks-cover (codeOf s)),
+  code-awaits s x h,
+)

@@ -1,0 +1,2 @@
+-- `check_points` over all blocks.
+pub mod CheckPoints

@@ -1,0 +1,78 @@
+-- The row of the host slots: where it lies in the words, that it is stored, and that it stands for them. Assumes nothing.
+use mathlib.Core.Path.{_≡_, refl, sym, ap, _∙_}
+use mathlib.Core.Bool.{Bool, true, false, _&&_}
+use mathlib.Core.List.{List}
+use Prim.Native.Nat.{ℕ, _+_, _*_, _≤_}
+use native.Mathlib.Omega.{arith}
+use borrow.Author.Tests.{ltb-false}
+use lib.Dec.{ltb}
+use lib.ListN.{length, take, replicate, length-replicate, List·getD-eq-default}
+use Rattle.bitset.specs.Rows.{patched}
+use Rattle.format.specs.Types.{absent}
+use Rattle.memory.specs.Cells.{storeCell, total}
+use Rattle.memory.specs.Names.{hostsRow}
+use Rattle.memory.specs.declared.layout.Layout.{Layout}
+use Rattle.memory.specs.Scratch.{scratch, scratchWidths, Room}
+use Rattle.memory.proofs.CellRows.{Lies, lies-fits, lies-patched}
+use Rattle.memory.proofs.ScratchLaws.{row-lies}
+use Rattle.sheet.specs.declared.script.Script.{Script}
+use Rattle.sheet.specs.Decode.{Parts, partsOf}
+use Rattle.instructions.specs.Slots.{isHost}
+use Rattle.instructions.specs.Sets.{hostRow, isHostSlot}
+use Rattle.instructions.specs.Sound.{Sound}
+use Rattle.instructions.proofs.SetSteps.{length-hosts}
+use Rattle.instructions.proofs.SetMembers.{hosts-in-row, records-count}
+use Rattle.script.specs.Script.{hostIn}
+use Rattle.answer.specs.Words.{Means}
+
+-- ---- where it lies
+
+-- it is as wide as asked
+hosts-long : (p : Parts) (w : ℕ) → length (hostRow p w) ≡ w
+unfolding hostRow
+hosts-long p w = length-hosts (p .kinds) 0 (replicate w 0) ∙ length-replicate w 0
+
+-- k is its cell, and base is where that begins
+module _ (y : Layout) (w : List ℕ) (room : Room y (length w)) (k base : ℕ) (ek : k ≡ hostsRow (y .blocks))
+    (eb : base ≡ total (take k (scratchWidths y))) where
+  -- where it lies in the words
+  hosts-there : Lies (scratchWidths y) w k base (y .words)
+  hosts-there = row-lies w room (record { low = omega arith; high = omega arith }) eb
+
+  -- it is inside
+  pub hosts-inside : base + y .words ≤ length w
+  hosts-inside = lies-fits hosts-there
+
+  -- it is stored
+  pub hosts-stored : (p : Parts) (w′ : List ℕ) → w′ ≡ patched w base (hostRow p (y .words))
+      → scratch y w′ ≡ storeCell (scratch y w) (hostsRow (y .blocks)) (hostRow p (y .words))
+  unfolding scratch
+  hosts-stored p w′ e =
+      lies-patched hosts-there (hostRow p (y .words)) (hosts-long p (y .words)) e
+      ∙ ap (λ (i : ℕ). storeCell (scratch y w) i (hostRow p (y .words))) ek
+
+-- ---- what it stands for
+
+module _ (s : List ℕ) (x : Script) (sound : Sound s x) where
+  -- as many slots are described as there are
+  kinds-count : length (partsOf s .kinds) ≡ partsOf s .slots
+  kinds-count = ap length (sound .kinds-are) ∙ records-count _ s (x .«slots_at») (x .slots) ∙ sym (sound .slots-are)
+
+  -- what no record describes is no host slot
+  past-none : (i : ℕ) → partsOf s .slots ≤ i → isHostSlot (partsOf s) i ≡ false
+  unfolding isHost
+  past-none i h =
+      ap isHost (List·getD-eq-default (partsOf s .kinds) (record { physical = 0; type = absent }) {n = i} (omega (arith, kinds-count)))
+
+  -- a slot is a host slot by either test
+  host-slot-in : (i : ℕ) → isHostSlot (partsOf s) i ≡ hostIn (partsOf s) i
+  unfolding hostIn
+  host-slot-in i = go (ltb i (partsOf s .slots)) refl
+    where
+      go : (t : Bool) → ltb i (partsOf s .slots) ≡ t → isHostSlot (partsOf s) i ≡ (t && isHostSlot (partsOf s) i)
+      go true e = refl
+      go false e = past-none i (ltb-false i (partsOf s .slots) e)
+
+  -- the row stands for the host slots
+  pub hosts-mean : (w : ℕ) → x .slots ≤ 64 * w → Means w (hostRow (partsOf s) w) (hostIn (partsOf s))
+  hosts-mean w wide i lt = hosts-in-row s x sound w wide i ∙ host-slot-in i

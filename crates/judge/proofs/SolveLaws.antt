@@ -1,0 +1,204 @@
+-- `solve`: what its calls ask for, and what it does by what they do. Assumes nothing.
+use mathlib.Core.Path.{_≡_, refl, sym, ap, subst, _∙_}
+use mathlib.Core.List.{List, []}
+use Prim.Native.Nat.{ℕ, _*_, _-_, _^_, _≤_, _<_}
+use native.Mathlib.Decide.{decLt}
+use native.Mathlib.Omega.{arith}
+use lib.ListN.{length}
+use Rattle.bitset.specs.Sets.{member}
+use Rattle.dataflow.specs.Lists.{elem}
+use Rattle.dataflow.specs.Code.{Instruction, instructionAt}
+use Rattle.budget.specs.declared.FlowBudget.{FlowBudget}
+use Rattle.budget.specs.declared.Limits.{Limits}
+use Rattle.budget.specs.declared.Charged.{Charged}
+use Rattle.budget.specs.declared.Charged.the-variants as charging
+use Rattle.budget.specs.Budget.{charged, budgetOf}
+use Rattle.format.specs.declared.refusal.Refusal.the-variants.{WorkLimit}
+use Rattle.memory.specs.Cells.{Mem, cell, storeCell}
+use Rattle.memory.specs.Names.{offsetCell, initializedRow, liveRow, parametersRow, hostsRow}
+use Rattle.memory.specs.declared.layout.Layout.{Layout}
+use Rattle.memory.specs.Scratch.{scratch, Room}
+use Rattle.memory.specs.Sets.{SetsRoom}
+use Rattle.memory.proofs.CellLaws.{cell-store-same, cell-store-other}
+use Rattle.memory.proofs.ScratchLaws.{scratch-length}
+use Rattle.sheet.specs.declared.script.Script.{Script}
+use Rattle.sheet.specs.Decode.{partsOf}
+use Rattle.instructions.specs.Sets.{hostRow}
+use Rattle.instructions.specs.Sound.{Sound}
+use Rattle.script.specs.Script.{flowCode, parameterIn, hostIn}
+use Rattle.script.proofs.ScriptLaws.{code-length, code-at, code-past, checked}
+use Rattle.edges.proofs.EdgeLaws.{same-word}
+use Rattle.blocks.specs.Blocks.{Block}
+use Rattle.fixed_points.specs.FixedPoints.{Scripted, fixedPointsCharges, Fixed}
+use Rattle.fixed_points.specs.Stages.{Flowing}
+use Rattle.answer.specs.Words.{Means}
+use Rattle.verdict.specs.Points.{points}
+use Rattle.points.specs.declared.awaits.Points.{Points}
+use Rattle.points.specs.declared.awaits.Points.the-variants.{Passed}
+use Rattle.points.specs.declared.awaits.Points.the-variants as pointing
+use Rattle.points.specs.Rows.{pointsOf}
+use Rattle.check_points.specs.CheckPoints.{Solved, PointsChecked}
+use Rattle.judge.specs.declared.Judged.{Judged}
+use Rattle.judge.specs.declared.Judged.the-variants.{Accepted, Refused}
+use Rattle.judge.specs.Judge.{afterPoints, afterRounds, pointed, Begun, Finished, Solves}
+use Rattle.judge.proofs.HostLaws.{hosts-mean}
+use Rattle.judge.proofs.CellsKept.{Still, still-then, flows-still, block-still, all-costs}
+
+-- ---- the answer of `check_points`
+
+-- as that of the whole, if it counts the awaits
+pointed-is : (y : Layout) (count : ℕ) (p : Points) → ((n : ℕ) (left : FlowBudget) → p ≡ Passed n left → n ≡ count)
+    → pointed y p ≡ afterPoints y count (pointsOf p)
+pointed-is y count (Passed n b) h = ap (λ (k : ℕ). Accepted y k b) (h n b refl)
+pointed-is y count (pointing.Refused r b) h = refl
+
+-- where it accepts, it passed
+accepted-passed : (y z : Layout) (p : Points) (awaits : ℕ) (left : FlowBudget) → pointed y p ≡ Accepted z awaits left → p ≡ Passed awaits left
+accepted-passed y z (Passed n b) awaits left e = cc
+accepted-passed y z (pointing.Refused r b) awaits left e = let o : _≡_ {A = ℕ} 0 1 = cc in absurd (omega arith)
+
+-- ---- the code of a sheet that passed
+
+module _ (s : List ℕ) (x : Script) (sound : Sound s x) where
+  -- no instruction of it empties a slot
+  nothing-emptied : (i : ℕ) → instructionAt (flowCode (partsOf s)) i .emptied ≡ []
+  nothing-emptied i = go (decLt i (x .count))
+    where
+      go : Dec (i < x .count) → instructionAt (flowCode (partsOf s)) i .emptied ≡ []
+      go (yes l) = ap (λ (v : Instruction). v .emptied) (code-at s x sound i l)
+      go (no l) = ap (λ (v : Instruction). v .emptied) (code-past s x sound i (omega arith))
+
+  -- it meets what `fixed_points` asks of code
+  pub scripted : (words : ℕ) → x .slots ≤ 64 * words → Scripted (flowCode (partsOf s)) (parameterIn (partsOf s)) words
+  scripted words wide = record {
+    slots = x .slots;
+    checked = checked s x sound;
+    wide = wide;
+    empties = λ i t. ap (elem t) (nothing-emptied i);
+  }
+
+-- ---- the stages
+
+module _ (s : List ℕ) (x : Script) (y : Layout) (m t : Mem) (begun : Begun s x y m t) where
+  -- the code meets what `fixed_points` asks of it
+  scripted-here : Scripted (flowCode (partsOf s)) (parameterIn (partsOf s)) (y .words)
+  scripted-here = scripted s x (begun .sound) (y .words) (begun .fits .slots)
+
+  -- the words hold the graph of that code
+  pub flowing : Flowing y m
+  flowing = (flowCode (partsOf s), parameterIn (partsOf s), scripted-here, begun .holding .flows)
+
+  -- what `fixed_points` asks; n and k words are lent
+  pub rounds-ask : (l : Limits) (n k : ℕ) → Room y n → SetsRoom y k → l .work < 2 ^ 64 - 1
+      → Room y n × SetsRoom y k × Flowing y m × (l .work < 2 ^ 64 - 1)
+  rounds-ask l n k room sets-room h = (room, sets-room, flowing, h)
+
+  -- what `hosts` asks: as many words as were lent
+  pub hosts-ask : (n n′ : ℕ) → n′ ≡ n → Room y n → Room y n′ × (Sound s x) × (x .slots ≤ 64 * y .words)
+  hosts-ask n n′ e room = (subst (Room y) (sym e) room, begun .sound, begun .fits .slots)
+
+  module _ (l : Limits) (b : FlowBudget) (w : List ℕ) (t₁ : Mem) (c : Charged) (f : Fixed y l b m (scratch y w) t t₁ c) where
+    -- the charges of both rounds are those of the code
+    rounds-charged : c ≡ charged l b (fixedPointsCharges (flowCode (partsOf s)) (parameterIn (partsOf s)) (y .words))
+    rounds-charged =
+        f .charges (flowCode (partsOf s)) (parameterIn (partsOf s)) scripted-here (begun .holding .flows) (begun .fresh)
+
+    -- a charge of the rounds crossed the limit
+    pub solves-over : (z : FlowBudget) (m′ t′ : Mem) (r : Judged) → c ≡ charging.Over z → r ≡ Refused WorkLimit (budgetOf c)
+        → Solves s x y l b m′ t′ r
+    solves-over z m′ t′ r eo er = record {
+      answer = er ∙ ap (λ (d : Charged). Refused WorkLimit (budgetOf d)) eo ∙ ap (afterRounds s x l y) (sym eo ∙ rounds-charged);
+      finished = λ y′ awaits left q. let o : _≡_ {A = ℕ} 0 1 = cc in absurd (omega arith);
+    }
+
+    -- all were met, and then the row of the host slots was stored
+    module _ (left : FlowBudget) (ec : c ≡ charging.Ok left) (m₂ : Mem)
+        (eh : m₂ ≡ storeCell (scratch y w) (hostsRow (y .blocks)) (hostRow (partsOf s) (y .words))) where
+      -- the rounds leave what the words hold of the script
+      rounds-still : Still y m (scratch y w)
+      rounds-still = record {
+        low = f .others left ec;
+        edges = f .edges left ec;
+        parameters = f .rows left ec (parametersRow (y .blocks)) (omega arith);
+      }
+
+      -- so does that store
+      stored-other : (k : ℕ) → (k ≡ hostsRow (y .blocks) → ⊥) → cell m₂ k ≡ cell (scratch y w) k
+      stored-other k ne =
+          ap (λ (v : Mem). cell v k) eh ∙ cell-store-other (scratch y w) (hostsRow (y .blocks)) (hostRow (partsOf s) (y .words)) k ne
+
+      hosts-still : Still y (scratch y w) m₂
+      hosts-still = record {
+        low = λ k lt. stored-other k (λ e. omega arith);
+        edges = λ k lo hi. stored-other k (λ e. omega arith);
+        parameters = stored-other (parametersRow (y .blocks)) (λ e. omega arith);
+      }
+
+      still : Still y m m₂
+      still = still-then rounds-still hosts-still
+
+      -- each block
+      block-here : (d : ℕ) → d < y .blocks → Block (flowCode (partsOf s)) (parameterIn (partsOf s)) m₂ d
+      block-here d lt = block-still still d lt (begun .holding .block d lt)
+
+      -- the row
+      hosts-here : Means (y .words) (cell m₂ (hostsRow (y .blocks))) (hostIn (partsOf s))
+      hosts-here i lt =
+          ap (λ (v : Mem). member (cell v (hostsRow (y .blocks))) i) eh
+          ∙ ap (λ (ws : List ℕ). member ws i)
+          (cell-store-same (scratch y w) (hostsRow (y .blocks)) (hostRow (partsOf s) (y .words)) (omega (arith, scratch-length y w)))
+          ∙ hosts-mean s x (begun .sound) (y .words) (begun .fits .slots) i lt
+
+      -- the words hold what `check_points` works on
+      pub solved : Solved s x y m₂ t₁
+      solved = record {
+        coded = record {
+          sound = begun .sound;
+          instructions = begun .fits .instructions;
+          slots = begun .fits .slots;
+          offsets = λ i lt. same-word m m₂ offsetCell i (still .low offsetCell (omega arith)) ∙ begun .holding .index .offsets i lt;
+          costs = λ i lt. all-costs y (begun .fits .blocks) block-here i (omega (arith, code-length s x (begun .sound)));
+          hosts = hosts-here;
+        };
+        scripted = scripted-here;
+        flows = flows-still still (begun .holding .flows);
+        starts = λ d lt. block-here d lt .start;
+        ends = λ d lt. block-here d lt .end;
+        sets = f .sets (flowCode (partsOf s)) (parameterIn (partsOf s)) scripted-here (begun .holding .flows) (begun .fresh) left ec;
+        awaits = begun .awaits;
+      }
+
+      -- what `check_points` asks: as many words as were lent
+      pub points-ask : (n n′ k k′ : ℕ) → n′ ≡ n → k′ ≡ k → Room y n → SetsRoom y k → Room y n′ × SetsRoom y k′ × Solved s x y m₂ t₁
+      points-ask n n′ k k′ e q room sets-room = (subst (Room y) (sym e) room, subst (SetsRoom y) (sym q) sets-room, solved)
+
+      module _ (m₃ t₃ : Mem) (p : Points) (g : PointsChecked s x y l left m₂ m₃ t₁ t₃ p) where
+        -- `check_points` leaves what the words hold of the script
+        points-still : Still y m₂ m₃
+        points-still = record {
+          low = λ k lt. g .others k (λ e. omega arith) (λ e. omega arith);
+          edges = λ k lo hi. g .others k (λ e. omega arith) (λ e. omega arith);
+          parameters = g .others (parametersRow (y .blocks)) (λ e. omega arith) (λ e. omega arith);
+        }
+
+        -- where it passed, the words hold all of a script that is accepted
+        all-finished : (n : ℕ) (last : FlowBudget) → p ≡ Passed n last → Finished s y m₃ t₃
+        all-finished n last e = record {
+          block = λ d lt. block-still points-still d lt (block-here d lt);
+          flows = flows-still points-still (solved .flows);
+          both = record {
+            initialized = λ d i lt li. ap (λ (ws : List ℕ). member ws i) (g .rows n last e (initializedRow d) (omega arith))
+                ∙ solved .sets .initialized d i lt li;
+            live = λ d i lt li. ap (λ (ws : List ℕ). member ws i) (g .rows n last e (liveRow d) (omega arith)) ∙ solved .sets .live d i lt li;
+          };
+          facts = g .entries n last e;
+        }
+
+        -- its answer is that of all
+        pub solves-on : (r : Judged) → r ≡ pointed y p → Solves s x y l b m₃ t₃ r
+        solves-on r er = record {
+          answer = er ∙ pointed-is y (length (points (flowCode (partsOf s)) (parameterIn (partsOf s)) (y .words))) p (g .count)
+              ∙ ap (afterPoints y (length (points (flowCode (partsOf s)) (parameterIn (partsOf s)) (y .words)))) (g .answer)
+              ∙ ap (afterRounds s x l y) (sym ec ∙ rounds-charged);
+          finished = λ z awaits last q. all-finished awaits last (accepted-passed y z p awaits last (sym er ∙ q));
+        }

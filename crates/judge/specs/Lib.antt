@@ -1,0 +1,2 @@
+-- The judging of a sheet that passed the checks.
+pub mod Judge

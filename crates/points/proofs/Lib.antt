@@ -1,0 +1,5 @@
+-- Laws about the reads and the awaits of a block.
+pub mod SlotLaws
+pub mod AwaitLaws
+pub mod MeansLaws
+pub mod ReadLaws

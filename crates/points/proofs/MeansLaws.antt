@@ -1,0 +1,65 @@
+-- A row that stands for a set, under the transfers of both analyses. Assumes nothing.
+use mathlib.Core.Path.{_≡_, refl, sym, ap, ap₂, _∙_}
+use mathlib.Core.Bool.{Bool, true, false, not, _&&_, _||_, or-comm}
+use mathlib.Core.List.{List, [], _∷_}
+use Prim.Native.Nat.{ℕ, _*_, _<_}
+use native.Mathlib.Decide.{ℕ-discrete}
+use native.Mathlib.Omega.{arith}
+use borrow.Author.Tests.{eq-eqb, ne-eqb}
+use lib.Dec.{eqb}
+use lib.ListN.{length}
+use Rattle.bitset.specs.Sets.{member, removed}
+use Rattle.bitset.proofs.SetLaws.{length-removed, member-removed}
+use Rattle.dataflow.specs.Lists.{every, elem}
+use Rattle.dataflow.specs.Analyses.{initTransfer, liveTransfer}
+use Rattle.dataflow.specs.Code.{Instruction, instructionAt, program}
+use Rattle.instructions.specs.Sets.{AllBelow, insertedAll}
+use Rattle.blocks.proofs.MemberLaws.{member-all}
+use Rattle.points.specs.Slots.{removedAll}
+use Rattle.answer.specs.Words.{Means}
+
+-- ---- slots taken out
+pub length-removed-all : (l ws : List ℕ) → length (removedAll l ws) ≡ length ws
+unfolding removedAll
+length-removed-all [] ws = refl
+length-removed-all (x ∷ l) ws = length-removed-all l (removed ws x) ∙ length-removed ws x
+
+pub member-removed-all : (l ws : List ℕ) (w k : ℕ) → length ws ≡ w → AllBelow (64 * w) l
+    → member (removedAll l ws) k ≡ (not (elem k l) && member ws k)
+unfolding removedAll
+member-removed-all [] ws w k q a = refl
+member-removed-all (x ∷ l) ws w k q a =
+    let h = a .0 in
+    member-removed-all l (removed ws x) w k (length-removed ws x ∙ q) (a .1)
+    ∙ ap (λ (t : Bool). not (elem k l) && t) (member-removed ws x (omega arith) k) ∙ go (ℕ-discrete k x)
+  where
+    swap : (p e t : Bool) → (not e && (not p && t)) ≡ (not (p || e) && t)
+    swap true true t = refl
+    swap true false t = refl
+    swap false e t = refl
+
+    go : Dec (k ≡ x) → (not (elem k l) && (not (eqb x k) && member ws k)) ≡ (not (eqb k x || elem k l) && member ws k)
+    go (yes e) = rw (eq-eqb x k (sym e), eq-eqb k x e) (swap true (elem k l) (member ws k))
+    go (no e) = rw (ne-eqb x k (λ q. e (sym q)), ne-eqb k x e) (swap false (elem k l) (member ws k))
+
+-- ---- a test over slots of the row
+pub every-means : (w : ℕ) (ws : List ℕ) (f : ℕ → Bool) (l : List ℕ) → AllBelow (64 * w) l → Means w ws f → every f l ≡ every (member ws) l
+every-means w ws f [] a m = refl
+every-means w ws f (x ∷ l) a m = ap₂ _&&_ (sym (m x (a .0))) (every-means w ws f l (a .1) m)
+
+module _ (code : List Instruction) (parameter : ℕ → Bool) (i w : ℕ) (ws : List ℕ) (f : ℕ → Bool) (outs : List ℕ)
+    (long : length ws ≡ w) (o : instructionAt code i .outputs ≡ outs) (below : AllBelow (64 * w) outs) (means : Means w ws f) where
+  -- forward: the outputs are put in, and nothing is emptied
+  pub means-init : instructionAt code i .emptied ≡ [] → Means w (insertedAll outs ws) (λ s. initTransfer (program code parameter) i s (f s))
+  means-init e s h =
+      member-all outs ws w s long below ∙ ap (λ (t : Bool). t || elem s outs) (means s h) ∙ or-comm (f s) (elem s outs)
+      ∙ sym (ap₂ (λ (a b : List ℕ). elem s a || (not (elem s b) && f s)) o e)
+
+  -- backward: the outputs are taken out, then the inputs put in
+  pub means-live : (ins : List ℕ) → instructionAt code i .inputs ≡ ins → AllBelow (64 * w) ins
+      → Means w (insertedAll ins (removedAll outs ws)) (λ s. liveTransfer (program code parameter) i s (f s))
+  means-live ins e a s h =
+      member-all ins (removedAll outs ws) w s (length-removed-all outs ws ∙ long) a
+      ∙ ap (λ (t : Bool). t || elem s ins) (member-removed-all outs ws w s long below ∙ ap (λ (t : Bool). not (elem s outs) && t) (means s h))
+      ∙ or-comm (not (elem s outs) && f s) (elem s ins)
+      ∙ sym (ap₂ (λ (b c : List ℕ). elem s b || (not (elem s c) && f s)) e o)

@@ -1,0 +1,276 @@
+-- The reads of a block's instructions one by one: the charge of each, its inputs, and its output put into the running set. Assumes nothing.
+use mathlib.Core.Path.{_≡_, refl, sym, ap, ap₂, subst, _∙_}
+use mathlib.Core.Bool.{Bool, true, false, not, _&&_, _||_, true≢false, false≢true}
+use mathlib.Core.List.{List, [], _∷_, _++_}
+use Prim.Native.Nat.{ℕ, zero, suc, _+_, _*_, _-_, _≤_, _<_}
+use native.Mathlib.Omega.{arith}
+use lib.ListN.{length, getD}
+use Rattle.bitset.specs.Sets.{member}
+use Rattle.dataflow.specs.Lists.{pick, range, every, keep, elem}
+use Rattle.dataflow.specs.Analyses.{initTransfer}
+use Rattle.dataflow.specs.Code.{Instruction, instructionAt, program}
+use Rattle.dataflow.specs.Verdict.{awaitAt}
+use Rattle.budget.specs.declared.FlowBudget.{FlowBudget}
+use Rattle.budget.specs.declared.Limits.{Limits}
+use Rattle.budget.specs.declared.Charged.{Charged}
+use Rattle.budget.specs.declared.Charged.the-variants as charge
+use Rattle.budget.specs.Budget.{charged, budgetOf}
+use Rattle.format.specs.declared.refusal.Refusal.the-variants.{UnfilledSlot}
+use Rattle.memory.specs.Cells.{Mem, cell, word, storeCell}
+use Rattle.memory.specs.Names.{costCell, offsetCell, stateRow}
+use Rattle.memory.specs.declared.layout.Layout.{Layout}
+use Rattle.memory.proofs.CellLaws.{cell-store-same, cell-store-other}
+use Rattle.operands.specs.Kinds.{isAwait}
+use Rattle.operands.specs.Operands.{inputsOf, outputOf}
+use Rattle.operands.specs.Instructions.{Readable, valuesOf}
+use Rattle.sheet.specs.declared.script.Script.{Script}
+use Rattle.sheet.specs.Decode.{partsOf}
+use Rattle.instructions.specs.declared.placed.Placed.{Placed}
+use Rattle.instructions.specs.Placed.{Stands, placedAt}
+use Rattle.instructions.specs.Sets.{AllBelow, insertedAll}
+use Rattle.instructions.specs.Sound.{codeOffset}
+use Rattle.script.specs.Script.{listOf, flowCode}
+use Rattle.script.proofs.ScriptLaws.{code-at}
+use Rattle.leaders.proofs.LeaderLaws.{readable-at}
+use Rattle.leaders.proofs.MarkLaws.{below-at}
+use Rattle.blocks.proofs.ReadLaws.{stands-at, flow-inputs, flow-outputs, inputs-at, output-at}
+use Rattle.blocks.proofs.MemberLaws.{member-all}
+use Rattle.blocks.proofs.TransferLaws.{range-more}
+use Rattle.points.specs.declared.reads.Reads.{Reads}
+use Rattle.points.specs.declared.reads.Reads.the-variants.{Filled, Unfilled, Over}
+use Rattle.verdict.specs.Points.{Checking, stop, on, ifPaid, costAt, readsRun}
+use Rattle.answer.specs.Words.{Means}
+use Rattle.points.specs.Rows.{Coded, awaitsAmong, readsOf, ReadsChecked}
+use Rattle.points.specs.Slots.{awaitCount}
+
+-- ---- lists
+
+-- one that fails
+pub every-missing : (f : ℕ → Bool) (l : List ℕ) (k : ℕ) → k < length l → f (getD l k 0) ≡ false → every f l ≡ false
+every-missing f [] k h e = absurd (omega arith)
+every-missing f (x ∷ l) zero h e = ap (λ (t : Bool). t && every f l) e
+every-missing f (x ∷ l) (suc k) h e = ap (λ (t : Bool). f x && t) (every-missing f l k (omega arith) e) ∙ and-no (f x)
+  where
+    and-no : (t : Bool) → (t && false) ≡ false
+    and-no true = refl
+    and-no false = refl
+
+-- none that fails
+pub every-there : (f : ℕ → Bool) (l : List ℕ) → ((k : ℕ) → k < length l → f (getD l k 0) ≡ true) → every f l ≡ true
+every-there f [] h = refl
+every-there f (x ∷ l) h =
+    ap (λ (t : Bool). t && every f l) (h 0 (omega arith)) ∙ every-there f l (λ k g. h (suc k) (omega arith))
+
+-- those of two lists that are kept
+kept-both : (f : ℕ → Bool) (a b : List ℕ) → length (keep f (a ++ b)) ≡ length (keep f a) + length (keep f b)
+kept-both f [] b = omega arith
+kept-both f (x ∷ a) b = go (f x) (kept-both f a b)
+  where
+    go : (t : Bool) → length (keep f (a ++ b)) ≡ length (keep f a) + length (keep f b)
+        → length (pick t (x ∷ keep f (a ++ b)) (keep f (a ++ b))) ≡ length (pick t (x ∷ keep f a) (keep f a)) + length (keep f b)
+    go true e = omega (arith, e)
+    go false e = e
+
+-- the awaits up to pc, and the one there
+awaits-more : (code : List Instruction) (start pc k : ℕ) → start ≤ pc → awaitAt code pc ≡ isAwait k
+    → awaitsAmong code start (pc + 1) ≡ awaitsAmong code start pc + awaitCount k
+awaits-more code start pc k h e =
+    ap (λ (l : List ℕ). length (keep (awaitAt code) l)) (range-more start pc h)
+    ∙ kept-both (awaitAt code) (range start (pc - start)) (pc ∷ [])
+    ∙ ap (λ (n : ℕ). awaitsAmong code start pc + n) (go (awaitAt code pc) ∙ ap (λ (t : Bool). pick {A = ℕ} t 1 0) e)
+  where
+    go : (t : Bool) → length (pick t (pc ∷ []) []) ≡ pick t 1 0
+    go true = refl
+    go false = refl
+
+-- an instruction counts once at most
+pub counted-once : (k n : ℕ) → n ≡ awaitCount k → n ≤ 1
+counted-once k n e = go (isAwait k) e
+  where
+    go : (t : Bool) → n ≡ pick t 1 0 → n ≤ 1
+    go true q = omega arith
+    go false q = omega arith
+
+-- not missing
+pub not-missing : (t b : Bool) → t ≡ not b → t ≡ false → b ≡ true
+not-missing t true e f = refl
+not-missing t false e f = absurd (true≢false (sym e ∙ f))
+
+-- ---- what is read at pc
+
+pub record Noted (s : List ℕ) (y : Layout) (i : ℕ) (p : Placed) : Type 0 where
+  pub readable : Readable s (p .instruction)
+  pub inputs-are : instructionAt (flowCode (partsOf s)) i .inputs ≡ inputsOf (p .instruction .pattern .kind) (valuesOf s (p .instruction))
+  pub outputs-are : instructionAt (flowCode (partsOf s)) i .outputs ≡ listOf (outputOf (p .instruction .pattern .kind) (valuesOf s (p .instruction)))
+  pub emptied-none : instructionAt (flowCode (partsOf s)) i .emptied ≡ []
+  pub await-is : awaitAt (flowCode (partsOf s)) i ≡ isAwait (p .instruction .pattern .kind)
+  pub inputs-below : AllBelow (64 * y .words) (inputsOf (p .instruction .pattern .kind) (valuesOf s (p .instruction)))
+  pub output-below : AllBelow (64 * y .words) (listOf (outputOf (p .instruction .pattern .kind) (valuesOf s (p .instruction))))
+
+module _ (s : List ℕ) (x : Script) (y : Layout) (m m′ : Mem) (ok : Coded s x y m)
+    (others : (k : ℕ) → (k ≡ stateRow (y .blocks) → ⊥) → cell m′ k ≡ cell m k) (i : ℕ) (h : i < y .instructions) where
+  there : i < x .count
+  there = omega (arith, ok .instructions)
+
+  -- the cost that is noted is the instruction's
+  pub noted-cost : (cost : ℕ) → cost ≡ word m′ costCell i → cost ≡ costAt (flowCode (partsOf s)) i
+  noted-cost cost e = e ∙ ap (λ (ws : List ℕ). getD ws i 0) (others costCell (λ q. omega arith)) ∙ ok .costs i there
+
+  -- and so is the offset
+  module _ (at : ℕ) (e : at ≡ word m′ offsetCell i) where
+    offset-is : at ≡ codeOffset s x i
+    offset-is = e ∙ ap (λ (ws : List ℕ). getD ws i 0) (others offsetCell (λ q. omega arith)) ∙ ok .offsets i there
+
+    pub noted-stands : Stands s at
+    noted-stands = stands-at s x (ok .sound) i at offset-is there
+
+    pub noted-read : (p : Placed) → p ≡ placedAt s at → Noted s y i p
+    noted-read p f = record {
+      readable = readable-at s x (ok .sound) i at p f offset-is there;
+      inputs-are = flow-inputs s x (ok .sound) i at offset-is there p f;
+      outputs-are = flow-outputs s x (ok .sound) i at offset-is there p f;
+      emptied-none = ap (λ (v : Instruction). v .emptied) (code-at s x (ok .sound) i there);
+      await-is = ap (λ (v : Instruction). v .isAwait) (code-at s x (ok .sound) i there)
+          ∙ ap (λ (w : Placed). isAwait (w .instruction .pattern .kind)) (sym (f ∙ ap (placedAt s) offset-is));
+      inputs-below = inputs-at s x (ok .sound) i at offset-is there p f (y .words) (ok .slots);
+      output-below = output-at s x (ok .sound) i at offset-is there p f (y .words) (ok .slots);
+    }
+
+-- ---- a row of w words that stands for a set
+
+-- an input that is missing
+pub means-missing : (w : ℕ) (ws : List ℕ) (f : ℕ → Bool) → Means w ws f → (l : List ℕ) (k : ℕ) → AllBelow (64 * w) l → k < length l
+    → member ws (getD l k 0) ≡ false → every f l ≡ false
+means-missing w ws f g l k b h e = every-missing f l k h (sym (g (getD l k 0) (below-at (64 * w) l k b h)) ∙ e)
+
+-- all inputs are there
+pub means-there : (w : ℕ) (ws : List ℕ) (f : ℕ → Bool) → Means w ws f → (l : List ℕ) → AllBelow (64 * w) l
+    → ((k : ℕ) → k < length l → member ws (getD l k 0) ≡ true) → every f l ≡ true
+means-there w ws f g l b e = every-there f l (λ k h. sym (g (getD l k 0) (below-at (64 * w) l k b h)) ∙ e k h)
+
+-- the set after an instruction that empties nothing
+means-after : (code : List Instruction) (parameter : ℕ → Bool) (w pc : ℕ) (ws outs : List ℕ) (f : ℕ → Bool) → Means w ws f → length ws ≡ w
+    → AllBelow (64 * w) outs → instructionAt code pc .outputs ≡ outs → instructionAt code pc .emptied ≡ []
+    → Means w (insertedAll outs ws) (λ s. initTransfer (program code parameter) pc s (f s))
+means-after code parameter w pc ws outs f g q b e n i h =
+    member-all outs ws w i q b ∙ ap (λ (t : Bool). t || elem i outs) (g i h) ∙ go (f i) (elem i outs)
+    ∙ ap₂ (λ (o v : List ℕ). elem i o || (not (elem i v) && f i)) (sym e) (sym n)
+  where
+    go : (t o : Bool) → (t || o) ≡ (o || (not false && t))
+    go true true = refl
+    go true false = refl
+    go false true = refl
+    go false false = refl
+
+-- ---- after the instructions from start to pc
+
+-- a row of m that stands for a set has become one from which the run goes on as from the start
+pub record Reading (code : List Instruction) (parameter : ℕ → Bool) (y : Layout) (l : Limits) (budget left : FlowBudget) (start end pc awaits : ℕ)
+    (m m′ : Mem) : Type 0 where
+  pub run : (f : ℕ → Bool) → Means (y .words) (cell m (stateRow (y .blocks))) f
+      → (g : ℕ → Bool) × Means (y .words) (cell m′ (stateRow (y .blocks))) g
+      × (readsRun code parameter l f (range start (end - start)) budget ≡ readsRun code parameter l g (range pc (end - pc)) left)
+  pub counted : awaits ≡ awaitsAmong code start pc
+  pub few : awaits + start ≤ pc
+  pub others : (k : ℕ) → (k ≡ stateRow (y .blocks) → ⊥) → cell m′ k ≡ cell m k
+
+module _ (code : List Instruction) (parameter : ℕ → Bool) (y : Layout) (l : Limits) (budget : FlowBudget) (start end : ℕ) (m : Mem) where
+  -- before the first of them
+  pub reading-none : Reading code parameter y l budget budget start end start 0 m m
+  reading-none =
+      let e : start - start ≡ 0 = omega arith in
+      record { run = λ f h. (f, h, refl); counted = rw e refl; few = omega arith; others = λ k h. refl }
+
+  module _ (left : FlowBudget) (pc awaits : ℕ) (m′ : Mem) (a : Reading code parameter y l budget left start end pc awaits m m′) where
+    -- all reads are filled
+    pub reads-filled : pc ≡ end → (z : FlowBudget) → z ≡ left → ReadsChecked code parameter y l budget start end m m′ (Filled awaits z)
+    unfolding readsRun
+    reads-filled q z o = record {
+      answer = λ f h. let r = a .run f h in
+          let e : end - pc ≡ 0 = omega arith in
+          sym (r .2 ∙ ap (λ (n : ℕ). readsRun code parameter l (r .0) (range pc n) left) e ∙ ap on (sym o));
+      counted = λ n x e. let w : n ≡ awaits = cc in w ∙ a .counted ∙ ap (awaitsAmong code start) q;
+      others = a .others;
+    }
+
+    module _ (h : pc < end) (cost : ℕ) (c : cost ≡ costAt code pc) (r : Charged) (d : r ≡ charged l left (cost ∷ [])) where
+      -- what follows the charge, if the set is g before pc
+      abbrev after : (ℕ → Bool) → FlowBudget → Checking
+      after g b = pick (every g (instructionAt code pc .inputs))
+          (readsRun code parameter l (λ s. initTransfer (program code parameter) pc s (g s)) (range (suc pc) (end - suc pc)) b) (stop UnfilledSlot b)
+
+      step : (g : ℕ → Bool) → readsRun code parameter l g (range pc (end - pc)) left ≡ ifPaid r (after g)
+      unfolding readsRun
+      step g =
+          let e : end - pc ≡ suc (end - suc pc) = omega arith in
+          ap (λ (n : ℕ). readsRun code parameter l g (range pc n) left) e
+          ∙ ap (λ (z : Charged). ifPaid z (after g)) (ap (λ (n : ℕ). charged l left (n ∷ [])) (sym c) ∙ sym d)
+
+      -- a charge crosses the limit
+      pub reads-over : (x : FlowBudget) (q : Reads) → r ≡ charge.Over x → q ≡ Over (budgetOf r)
+          → ReadsChecked code parameter y l budget start end m m′ q
+      reads-over x q e o =
+          let over : q ≡ Over x = o ∙ ap (λ (z : Charged). Over (budgetOf z)) e in
+          record {
+            answer = λ f g. let u = a .run f g in
+                ap readsOf over ∙ sym (u .2 ∙ step (u .0) ∙ ap (λ (z : Charged). ifPaid z (after (u .0))) e);
+            counted = λ n z p. let w : _≡_ {A = ℕ} 0 1 = cc in absurd (omega arith);
+            others = a .others;
+          }
+
+      module _ (b : FlowBudget) (e : r ≡ charge.Ok b) (ins : List ℕ) (p : instructionAt code pc .inputs ≡ ins)
+          (ib : AllBelow (64 * y .words) ins) where
+        -- after a charge that is met, by whether all inputs are there
+        met : (g : ℕ → Bool) (t : Bool) → every g ins ≡ t → readsRun code parameter l g (range pc (end - pc)) left
+            ≡ pick t (readsRun code parameter l (λ s. initTransfer (program code parameter) pc s (g s)) (range (suc pc) (end - suc pc)) b)
+            (stop UnfilledSlot b)
+        met g t q =
+            step g ∙ ap (λ (z : Charged). ifPaid z (after g)) e
+            ∙ ap (λ (v : Bool). pick v
+            (readsRun code parameter l (λ s. initTransfer (program code parameter) pc s (g s)) (range (suc pc) (end - suc pc)) b)
+            (stop UnfilledSlot b)) (ap (every g) p ∙ q)
+
+        -- an input is missing
+        pub reads-unfilled : (row k : ℕ) → row ≡ stateRow (y .blocks) → k < length ins → (t : Bool)
+            → t ≡ not (member (cell m′ row) (getD ins k 0)) → t ≡ true → (z : FlowBudget) → z ≡ b
+            → ReadsChecked code parameter y l budget start end m m′ (Unfilled z)
+        reads-unfilled row k i j t q v z o = record {
+          answer = λ f g. let u = a .run f g in
+              sym (u .2 ∙ met (u .0) false (means-missing (y .words) _ (u .0) (u .1) ins k ib j
+              (ap (λ (n : ℕ). member (cell m′ n) (getD ins k 0)) (sym i) ∙ denied (member (cell m′ row) (getD ins k 0)) (sym q ∙ v)))
+              ∙ ap (stop UnfilledSlot) (sym o));
+          counted = λ n z′ w. let o : _≡_ {A = ℕ} 0 1 = cc in absurd (omega arith);
+          others = a .others;
+        }
+          where
+            denied : (t : Bool) → not t ≡ true → t ≡ false
+            denied true f = absurd (false≢true f)
+            denied false f = refl
+
+        -- one instruction more
+        pub reading-more : (row kind k : ℕ) (outs : List ℕ) (m₁ : Mem) → row ≡ stateRow (y .blocks) → row < length m′
+            → length (cell m′ row) ≡ y .words
+            → ((j : ℕ) → j < length ins → member (cell m′ row) (getD ins j 0) ≡ true)
+            → instructionAt code pc .outputs ≡ outs → instructionAt code pc .emptied ≡ [] → AllBelow (64 * y .words) outs
+            → m₁ ≡ storeCell m′ row (insertedAll outs (cell m′ row)) → awaitAt code pc ≡ isAwait kind → k ≡ awaitCount kind → start ≤ pc
+            → Reading code parameter y l budget b start end (pc + 1) (awaits + k) m m₁
+        reading-more row kind k outs m₁ i lt wide all out none ob s aw ek sp =
+            let same : cell m₁ (stateRow (y .blocks)) ≡ insertedAll outs (cell m′ (stateRow (y .blocks))) =
+            subst (λ (z : ℕ). cell m₁ z ≡ insertedAll outs (cell m′ z)) i (ap (λ (z : Mem). cell z row) s ∙ cell-store-same m′ row _ lt) in
+            record {
+              run = λ f g. let u = a .run f g in (
+                (λ s. initTransfer (program code parameter) pc s (u .0 s)),
+                subst (λ (ws : List ℕ). Means (y .words) ws (λ s. initTransfer (program code parameter) pc s (u .0 s))) (sym same)
+                    (means-after code parameter (y .words) pc (cell m′ (stateRow (y .blocks))) outs (u .0) (u .1)
+                    (ap (λ (z : ℕ). length (cell m′ z)) (sym i) ∙ wide) ob out none),
+                u .2 ∙ met (u .0) true (means-there (y .words) _ (u .0) (u .1) ins ib
+                    (λ j lj. ap (λ (z : ℕ). member (cell m′ z) (getD ins j 0)) (sym i) ∙ all j lj))
+                    ∙ ap (λ (z : ℕ). readsRun code parameter l (λ s. initTransfer (program code parameter) pc s (u .0 s)) (range z (end - z)) b) next,
+              );
+              counted = ap₂ (λ (p q : ℕ). p + q) (a .counted) ek ∙ sym (awaits-more code start pc kind sp aw);
+              few = omega (arith, a .few, counted-once kind k ek);
+              others = λ z f. ap (λ (w : Mem). cell w z) s ∙ cell-store-other m′ row _ z (λ w. f (w ∙ i)) ∙ a .others z f;
+            }
+          where
+            next : suc pc ≡ pc + 1
+            next = omega arith

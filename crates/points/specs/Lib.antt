@@ -1,0 +1,3 @@
+-- The reads and the awaits of one block, over the words.
+pub mod Slots
+pub mod Rows

@@ -1,0 +1,87 @@
+-- `check_points` over the words: rows as sets, and what each function does.
+use mathlib.Core.Path.{_≡_}
+use mathlib.Core.Bool.{Bool}
+use mathlib.Core.List.{List, [], _∷_}
+use Prim.Native.Nat.{ℕ, _+_, _*_, _-_, _≤_, _<_}
+use lib.ListN.{length, getD}
+use Rattle.bitset.specs.Sets.{common}
+use Rattle.dataflow.specs.Lists.{pick, range, keep}
+use Rattle.dataflow.specs.Code.{Instruction}
+use Rattle.dataflow.specs.Verdict.{awaitAt}
+use Rattle.budget.specs.declared.FlowBudget.{FlowBudget}
+use Rattle.budget.specs.declared.Limits.{Limits}
+use Rattle.format.specs.declared.refusal.Refusal.the-variants.{WorkLimit, UnfilledSlot, HostOverAwait}
+use Rattle.budget.specs.Budget.{charged, retained, factsBytes}
+use Rattle.memory.specs.Cells.{Mem, cell, word, storeCell}
+use Rattle.memory.specs.Names.{costCell, offsetCell, stateRow, liveStateRow, hostsRow}
+use Rattle.memory.specs.declared.layout.Layout.{Layout}
+use Rattle.sheet.specs.declared.script.Script.{Script}
+use Rattle.sheet.specs.Decode.{partsOf}
+use Rattle.instructions.specs.Sound.{Sound, codeOffset}
+use Rattle.script.specs.Script.{flowCode, parameterIn, hostIn}
+use Rattle.points.specs.declared.reads.Reads.{Reads}
+use Rattle.points.specs.declared.reads.Reads.the-variants.{Filled, Unfilled, Over}
+use Rattle.points.specs.declared.awaits.Points.{Points}
+use Rattle.points.specs.declared.awaits.Points.the-variants.{Passed, Refused}
+use Rattle.answer.specs.Words.{Means}
+use Rattle.verdict.specs.Points.{Checking, stop, on, ifPaid, ifKept, Point, costAt, readsRun, awaitsRun, awaitPoints}
+
+-- the instructions of a sheet that passed can be read, with their costs and the row of host slots
+pub record Coded (s : List ℕ) (x : Script) (y : Layout) (m : Mem) : Type 0 where
+  pub sound : Sound s x
+  pub instructions : y .instructions ≡ x .count
+  pub slots : x .slots ≤ 64 * y .words
+  pub offsets : (i : ℕ) → i < x .count → word m offsetCell i ≡ codeOffset s x i
+  pub costs : (i : ℕ) → i < x .count → word m costCell i ≡ costAt (flowCode (partsOf s)) i
+  pub hosts : Means (y .words) (cell m (hostsRow (y .blocks))) (hostIn (partsOf s))
+
+-- how many awaits are among the instructions from start to end
+abbrev pub awaitsAmong : List Instruction → ℕ → ℕ → ℕ
+awaitsAmong code start end = length (keep (awaitAt code) (range start (end - start)))
+
+-- an answer as that of the run
+abbrev pub readsOf : Reads → Checking
+readsOf (Filled n b) = on b
+readsOf (Unfilled b) = stop UnfilledSlot b
+readsOf (Over b) = stop WorkLimit b
+
+abbrev pub pointsOf : Points → Checking
+pointsOf (Passed n b) = on b
+pointsOf (Refused r b) = stop r b
+
+-- what `check_reads` does with the instructions from start to end
+pub record ReadsChecked (code : List Instruction) (parameter : ℕ → Bool) (y : Layout) (l : Limits) (b : FlowBudget) (start end : ℕ) (m m′ : Mem) (r : Reads) : Type 0 where
+  pub answer : (f : ℕ → Bool) → Means (y .words) (cell m (stateRow (y .blocks))) f → readsOf r ≡ readsRun code parameter l f (range start (end - start)) b
+  pub counted : (n : ℕ) (left : FlowBudget) → r ≡ Filled n left → n ≡ awaitsAmong code start end
+  pub others : (k : ℕ) → (k ≡ stateRow (y .blocks) → ⊥) → cell m′ k ≡ cell m k
+
+-- an await by rows: the slot count is charged, then 14 if the rows have a slot in common, then its facts are retained, then 15
+unfoldable pub awaitRows : Layout → Limits → ℕ → Mem → FlowBudget → Checking
+awaitRows y l slots m b = ifPaid (charged l b (slots ∷ [])) (λ b′. pick (common (cell m (hostsRow (y .blocks))) (cell m (liveStateRow (y .blocks))))
+    (stop HostOverAwait b′) (ifKept (retained l b′ (factsBytes (y .words)))))
+
+-- what `check_point` does: nothing if there is no await; else its facts are put before entry `place`
+pub record AwaitChecked (await : Bool) (y : Layout) (l : Limits) (slots : ℕ) (b : FlowBudget) (pc place : ℕ) (m t t′ : Mem) (r : Points) : Type 0 where
+  pub answer : pointsOf r ≡ pick await (awaitRows y l slots m b) (on b)
+  pub places : (n : ℕ) (left : FlowBudget) → r ≡ Passed n left → n + pick await 1 0 ≡ place
+  pub entry : (n : ℕ) (left : FlowBudget) → r ≡ Passed n left
+      → t′ ≡ pick await (storeCell t (2 * y .blocks + n) (pc ∷ cell m (liveStateRow (y .blocks)))) t
+
+-- an entry of the sets buffer holds an await's facts: its instruction, then its set
+abbrev pub Entry : ℕ → List ℕ → Point → Type 0
+Entry w ws p = (row : List ℕ) × (ws ≡ p .instruction ∷ row) × Means w row (p .live)
+
+-- the entries from `first` on hold these points
+abbrev pub Entries : Layout → Mem → ℕ → List Point → Type 0
+Entries y t first [] = Unit {0}
+Entries y t first (p ∷ ps) = Entry (y .words) (cell t (2 * y .blocks + first)) p × Entries y t (first + 1) ps
+
+-- what `check_awaits` does with the instructions from start to end: its awaits' facts stand before entry `place`
+pub record AwaitsChecked (s : List ℕ) (x : Script) (y : Layout) (l : Limits) (b : FlowBudget) (start end place : ℕ) (m m′ t t′ : Mem) (r : Points) : Type 0 where
+  pub answer : (g : ℕ → Bool) → Means (y .words) (cell m (liveStateRow (y .blocks))) g
+      → pointsOf r ≡ awaitsRun (flowCode (partsOf s)) (parameterIn (partsOf s)) l (y .words) (x .slots) (hostIn (partsOf s)) g (range start (end - start)) b
+  pub places : (n : ℕ) (left : FlowBudget) → r ≡ Passed n left → n + awaitsAmong (flowCode (partsOf s)) start end ≡ place
+  pub entries : (n : ℕ) (left : FlowBudget) → r ≡ Passed n left → (g : ℕ → Bool) → Means (y .words) (cell m (liveStateRow (y .blocks))) g
+      → Entries y t′ n (awaitPoints (flowCode (partsOf s)) (parameterIn (partsOf s)) g (range start (end - start)))
+  pub others : (k : ℕ) → (k ≡ liveStateRow (y .blocks) → ⊥) → cell m′ k ≡ cell m k
+  pub other-sets : (n : ℕ) (left : FlowBudget) → r ≡ Passed n left → (k : ℕ) → k < 2 * y .blocks + n → cell t′ k ≡ cell t k

@@ -1,0 +1,94 @@
+// An await of a block.
+use budget::Charged;
+use budget::FlowBudget;
+use budget::Limits;
+use format::refusal::Refusal;
+use memory::layout::Layout;
+use operands::kinds;
+use sheet::script::Script;
+ghost use mathlib.Core.Path.{_≡_};
+ghost use mathlib.Core.Bool.{true};
+ghost use Prim.Native.Nat.{_+_, _≤_, _<_};
+ghost use lib.ListN.{length};
+ghost use Rattle.operands.specs.Kinds.{isAwait};
+ghost use Rattle.budget.specs.Budget.{budgetOf};
+ghost use Rattle.format.specs.declared.refusal.Refusal.the-variants.{WorkLimit, FactsLimit};
+ghost use Rattle.memory.specs.Scratch.{scratch, Room};
+ghost use Rattle.memory.specs.Sets.{sets, SetsRoom};
+ghost use Rattle.points.specs.Rows.{AwaitChecked};
+
+// It passed, with the entry that the next await before it is put before; or why it is refused.
+pub enum Points {
+    Passed(usize, FlowBudget),
+    Refused(Refusal, FlowBudget),
+}
+
+// An instruction that is no await passes.
+pub fn check_point(
+    s: &[u64],
+    t: &mut [u64],
+    script: Script,
+    y: Layout,
+    kind: usize,
+    pc: usize,
+    place: usize,
+    limits: Limits,
+    budget: FlowBudget,
+) -> Points
+    requires { ⌜ Room y (length (now s)) × SetsRoom y (length (now t)) × (isAwait kind ≡ true → 0 < place) × (place ≤ y .awaits) × (y .words ≤ 1024) ⌝ }
+    ensures { λ r. ⌜ AwaitChecked (isAwait kind) y limits (script .slots) budget pc place (scratch y (now (s .entry))) (sets y (now (t .entry))) (sets y (now (t .exit))) r ⌝ }
+{
+    if kinds::is_await(kind) {
+        return check_await(s, t, script.slots, y, pc, place - 1, limits, budget);
+    }
+    Points::Passed(place, budget)
+}
+
+// An await: the slot count is charged, then 14, then its facts are retained, 15, and put.
+fn check_await(
+    s: &[u64],
+    t: &mut [u64],
+    slots: usize,
+    y: Layout,
+    pc: usize,
+    place: usize,
+    limits: Limits,
+    budget: FlowBudget,
+) -> Points
+    requires { ⌜ Room y (length (now s)) × SetsRoom y (length (now t)) × (place < y .awaits) ⌝ }
+    ensures { λ r. ⌜ AwaitChecked true y limits slots budget pc (place + 1) (scratch y (now (s .entry))) (sets y (now (t .entry))) (sets y (now (t .exit))) r ⌝ }
+{
+    let c = budget.charge(slots as u64, limits);
+    let Charged::Ok(b) = c else {
+        return over(c);
+    };
+    if memory::rows::common(s, y, y.hosts(), y.live_state()) {
+        return Points::Refused(Refusal::HostOverAwait, b);
+    }
+    let k = b.retain(budget::facts_bytes(y.words), limits);
+    let Charged::Ok(kept) = k else {
+        return facts(k);
+    };
+    memory::rows::put_await(t, y, 2 * y.blocks + place, pc as u64, s, y.live_state());
+    Points::Passed(place, kept)
+}
+
+// 12, with the sum that crossed the limit.
+pub fn over(c: Charged) -> Points
+    ensures { λ r. ⌜ r ≡ Points.Refused WorkLimit (budgetOf c) ⌝ }
+{
+    match c {
+        Charged::Ok(b) => Points::Refused(Refusal::WorkLimit, b),
+        Charged::Over(b) => Points::Refused(Refusal::WorkLimit, b),
+    }
+}
+
+// 15, likewise.
+fn facts(c: Charged) -> Points
+    ensures { λ r. ⌜ r ≡ Points.Refused FactsLimit (budgetOf c) ⌝ }
+{
+    match c {
+        Charged::Ok(b) => Points::Refused(Refusal::FactsLimit, b),
+        Charged::Over(b) => Points::Refused(Refusal::FactsLimit, b),
+    }
+}

@@ -1,0 +1,89 @@
+// The reads of a block.
+use crate::slots;
+use budget::Charged;
+use budget::FlowBudget;
+use budget::Limits;
+use instructions::placed;
+use memory::layout;
+use memory::layout::Layout;
+use operands::kinds;
+use sheet::script::Script;
+ghost use mathlib.Core.Path.{_≡_};
+ghost use Prim.Native.Nat.{_≤_};
+ghost use lib.ListN.{length};
+ghost use Rattle.budget.specs.Budget.{budgetOf};
+ghost use Rattle.memory.specs.Scratch.{scratch, Room};
+ghost use Rattle.sheet.specs.Decode.{partsOf};
+ghost use Rattle.script.specs.Script.{flowCode, parameterIn};
+ghost use Rattle.points.specs.Slots.{awaitCount};
+ghost use Rattle.points.specs.Rows.{Coded, ReadsChecked};
+
+// All reads are filled, with how many awaits there are; or one is not; or a charge crossed the limit.
+pub enum Reads {
+    Filled(usize, FlowBudget),
+    Unfilled(FlowBudget),
+    Over(FlowBudget),
+}
+
+// The instructions from start to end in order; the first unfilled read leaves both loops.
+pub fn check_reads(
+    sheet: &[u8],
+    s: &mut [u64],
+    script: Script,
+    y: Layout,
+    start: usize,
+    end: usize,
+    limits: Limits,
+    budget: FlowBudget,
+) -> Reads
+    requires { ⌜ Room y (length (now s)) × (Coded (now sheet) script y (scratch y (now s))) × (start ≤ end) × (end ≤ y .instructions) ⌝ }
+    ensures { λ r. ⌜ ReadsChecked (flowCode (partsOf (now (sheet .entry)))) (parameterIn (partsOf (now (sheet .entry)))) y limits budget start end (scratch y (now (s .entry))) (scratch y (now (s .exit))) r ⌝ }
+{
+    let state = y.state();
+    let mut left = budget;
+    let mut awaits = 0;
+    let mut pc = start;
+    'block: while pc < end {
+        let cost = memory::scratch::get(s, y, layout::COST, pc);
+        let c = left.charge(cost, limits);
+        let Charged::Ok(b) = c else {
+            return over(c);
+        };
+        left = b;
+        let at = memory::scratch::get(s, y, layout::OFFSET, pc) as usize;
+        let p = placed::instruction_at(sheet, at);
+        let mut k = 0;
+        while k + 1 < cost as usize {
+            if slots::misses_input(sheet, s, y, state, p.instruction, k) {
+                break 'block;
+            }
+            k += 1;
+        }
+        slots::insert_output(sheet, s, y, state, p.instruction);
+        awaits += await_count(p.instruction.pattern.kind);
+        pc += 1;
+    }
+    if pc < end {
+        return Reads::Unfilled(left);
+    }
+    Reads::Filled(awaits, left)
+}
+
+// 1 for an await.
+fn await_count(kind: usize) -> usize
+    ensures { λ r. ⌜ r ≡ awaitCount kind ⌝ }
+{
+    if kinds::is_await(kind) {
+        return 1;
+    }
+    0
+}
+
+fn over(c: Charged) -> Reads
+    ensures { λ r. ⌜ r ≡ Reads.Over (budgetOf c) ⌝ }
+{
+    match c {
+        Charged::Ok(b) => Reads::Over(b),
+        Charged::Over(b) => Reads::Over(b),
+    }
+}
