@@ -1,7 +1,7 @@
 -- `check_block` and `check_reached`: what the calls for one block require, and the answer for each way out. Assumes nothing.
 use mathlib.Core.Path.{_≡_, refl, sym, ap, subst, _∙_}
 use mathlib.Core.Bool.{Bool, true, false, false≢true}
-use mathlib.Core.List.{List, []}
+use mathlib.Core.List.{List, [], _∷_}
 use mathlib.Core.Logic.{_⊎_, inl, inr}
 use Prim.Native.Nat.{ℕ, _+_, _-_, _*_, _^_, _≤_, _<_}
 use native.Mathlib.Omega.{arith}
@@ -14,7 +14,7 @@ use Rattle.dataflow.specs.Verdict.{awaitAt}
 use Rattle.budget.specs.declared.FlowBudget.{FlowBudget}
 use Rattle.budget.specs.declared.Limits.{Limits}
 use Rattle.memory.specs.Cells.{Mem, cell, word, storeCell}
-use Rattle.memory.specs.Names.{flag, startCell, endCell, reachableCell, stateRow, liveStateRow}
+use Rattle.memory.specs.Names.{flag, costCell, startCell, endCell, reachableCell, stateRow, liveStateRow}
 use Rattle.memory.specs.Scratch.{scratch, Room}
 use Rattle.memory.specs.Sets.{sets, SetsRoom}
 use Rattle.memory.specs.declared.layout.Layout.{Layout}
@@ -22,7 +22,6 @@ use Rattle.sheet.specs.declared.script.Script.{Script}
 use Rattle.sheet.specs.Decode.{partsOf}
 use Rattle.script.specs.Script.{parameterIn, hostIn}
 use Rattle.solver.specs.declared.direction.Direction.the-variants.{Initialization, Liveness}
-use Rattle.solver.specs.Neighbors.{Connected}
 use Rattle.solver.specs.Transfer.{runningRow, gathered}
 use Rattle.answer.specs.Words.{Means}
 use Rattle.verdict.specs.Points.{Checking, on, andThen, Point, readsRun, awaitsRun, blockRun, awaitPoints}
@@ -31,9 +30,10 @@ use Rattle.points.specs.declared.awaits.Points.the-variants.{Passed, Refused}
 use Rattle.points.specs.declared.reads.Reads.{Reads}
 use Rattle.points.specs.declared.reads.Reads.the-variants.{Filled, Unfilled, Over}
 use Rattle.points.proofs.reads.Reads.{the-type}
-use Rattle.points.specs.Rows.{Coded, awaitsAmong, readsOf, pointsOf, Entries, ReadsChecked, AwaitsChecked}
-use Rattle.check_points.specs.CheckPoints.{codeOf, Solved, factsOf, Facing, refusedBy, raisedTo, BlockChecked}
-use Rattle.check_points.proofs.SolvedLaws.{RunningOnly, running-then, solved-kept, reads-others, gather-others, solved-connected}
+use Rattle.points.specs.Rows.{Coded, awaitsAmong, readsOf, pointsOf, Entries, ReadsChecked, AwaitsChecked, ChargedBack}
+use Rattle.points.proofs.ChargeLaws.{none-run}
+use Rattle.check_points.specs.CheckPoints.{codeOf, Solved, factsOf, Facing, refusedBy, raisedTo, Counted, FoundChecked, BlockChecked}
+use Rattle.check_points.proofs.SolvedLaws.{RunningOnly, running-then, word-kept, solved-kept, reads-others, gather-others}
 use Rattle.check_points.proofs.SolvedLaws.{incoming-means, live-out-means}
 use Rattle.check_points.proofs.SpanLaws.{Span, spans, points-length}
 
@@ -171,19 +171,9 @@ pub record Entered (s : List ℕ) (x : Script) (y : Layout) (c place start end :
   pub room : place + length (factsOf s (y .words) c) ≤ y .awaits
   pub reached : reachable (codeOf s) c ≡ true
   pub span : Span s y c start end
+  pub start-is : start ≡ word m startCell c
+  pub end-is : end ≡ word m endCell c
   pub means : Means (y .words) (cell m (stateRow (y .blocks))) (entrySet s (y .words) c)
-  pub others : RunningOnly y m₀ m
-
--- its awaits may be checked: the reads are filled, and the running live set stands for what is live at its exit
-pub record Leaving (s : List ℕ) (x : Script) (y : Layout) (l : Limits) (b : FlowBudget) (c place start end found : ℕ) (left : FlowBudget)
-    (m₀ m t : Mem) : Type 0 where
-  pub coded : Coded s x y m
-  pub reached : reachable (codeOf s) c ≡ true
-  pub span : Span s y c start end
-  pub found-are : found ≡ awaitsAmong (codeOf s) start end
-  pub room : place + found ≤ y .awaits
-  pub filled : on left ≡ blockReads s y l c b
-  pub means : Means (y .words) (cell m (liveStateRow (y .blocks))) (exitSet s (y .words) c)
   pub others : RunningOnly y m₀ m
 
 -- the first gathering, and the words START and END
@@ -197,6 +187,8 @@ entered {s} {x} {y} {c} {place} w u room fits more fit h e {m} g {start} {end} p
   room = h .room;
   reached = e;
   span = spans kept c (h .inside) p q;
+  start-is = p;
+  end-is = q;
   means = incoming-means w u room fits more fit (h .solved) c (h .inside) g;
   others = only;
 }
@@ -237,13 +229,16 @@ module _ {s : List ℕ} {x : Script} {y : Layout} {l : Limits} {b : FlowBudget} 
   reads-solved : Solved s x y m₁ t
   reads-solved = solved-kept (reads-others p) (h .solved)
 
-  -- which the second gathering requires
-  pub reads-connected : Connected y m₁
-  reads-connected = solved-connected reads-solved
-
-  -- the entries of its awaits are there
-  pub reads-room : {found : ℕ} {left : FlowBudget} → r ≡ Filled found left → place + found ≤ y .awaits
-  reads-room {found} {left} e = omega (arith, h .room, facts-among (h .reached) (h .span), p .counted found left e)
+  -- its awaits may be checked
+  pub reads-counted : {found : ℕ} {left : FlowBudget} → r ≡ Filled found left → Counted s x y c start end place found m₁ t
+  reads-counted {found} {left} e = record {
+    solved = reads-solved;
+    inside = h .inside;
+    start-is = h .start-is ∙ sym (word-kept (reads-others p) startCell c (omega arith));
+    end-is = h .end-is ∙ sym (word-kept (reads-others p) endCell c (omega arith));
+    found-are = p .counted found left e;
+    room = omega (arith, h .room, facts-among (h .reached) (h .span), p .counted found left e);
+  }
 
   -- a read is not filled, or a charge crossed the limit
   pub reads-refused : NotFilled r → {q : Points} → q ≡ refusedBy r → BlockChecked s x y l b c place m₀ m₁ t t q
@@ -256,50 +251,92 @@ module _ {s : List ℕ} {x : Script} {y : Layout} {l : Limits} {b : FlowBudget} 
     others = running-then (h .others) (reads-others p) .others;
   }
 
--- the second gathering, after reads that are filled
-pub leaving : {s : List ℕ} {x : Script} {y : Layout} {l : Limits} {b : FlowBudget} {c place start end : ℕ} {m₀ m : Mem} {r : Reads} (w u : List ℕ)
-    → Room y (length w) → ((i : ℕ) → getD w i 0 < 2 ^ 64) → SetsRoom y (length u) → ((i : ℕ) → getD u i 0 < 2 ^ 64)
-    → Entered s x y c place start end m₀ m (sets y u) → ReadsChecked (codeOf s) (parameterIn (partsOf s)) y l b start end m (scratch y w) r
-    → {found : ℕ} {left : FlowBudget} → r ≡ Filled found left
-    → {m′ : Mem} → m′ ≡ storeCell (scratch y w) (runningRow Liveness y) (gathered Liveness y (scratch y w) (sets y u) c)
-    → Leaving s x y l b c place start end found left m₀ m′ (sets y u)
-leaving {s} {x} {y} {l} {b} {c} w u room fits more fit h p {found} {left} e {m′} g = record {
-  coded = solved-kept only (reads-solved h p) .coded;
-  reached = h .reached;
-  span = h .span;
-  found-are = p .counted found left e;
-  room = reads-room h p e;
-  filled = sym (ap readsOf e) ∙ reads-answer h p;
-  means = live-out-means w u room fits more fit (reads-solved h p) c (h .inside) g;
-  others = running-then (running-then (h .others) (reads-others p)) only;
+  -- the reads are filled, and then its awaits are checked
+  pub reads-then : {found : ℕ} {left : FlowBudget} → r ≡ Filled found left → {m′ t′ : Mem} {q : Points}
+      → FoundChecked s x y l left c place found m₁ m′ t t′ q → BlockChecked s x y l b c place m₀ m′ t t′ q
+  reads-then {found} {left} e {m′} {t′} {q} f = record {
+    answer = f .answer ∙ ap (λ (z : Checking). andThen z (blockAwaits s x y l c)) (sym (ap readsOf e) ∙ reads-answer)
+        ∙ sym (run-reached s x y l b c (h .reached));
+    count = λ n last z. f .count n last z
+        ∙ ap (λ (k : ℕ). place + k) (p .counted found left e ∙ sym (facts-among (h .reached) (h .span)));
+    entries = λ n last z. subst (λ (ps : List Point). Entries y t′ place ps)
+        (sym (ap (λ (v : Bool). pick v (blockFacts s y c) []) (h .reached))) (f .entries n last z);
+    earlier = f .earlier;
+    others = running-then {m′ = m′} (running-then (h .others) (reads-others p)) (record { others = f .others }) .others;
+  }
+
+-- ---- its awaits
+
+module _ {s : List ℕ} {x : Script} {y : Layout} {c start end place found : ℕ} {m t : Mem} (h : Counted s x y c start end place found m t) where
+  -- where it lies
+  pub counted-span : Span s y c start end
+  counted-span = spans (h .solved) c (h .inside) (h .start-is) (h .end-is)
+
+  -- the entries of its awaits end where they are put before
+  pub counted-among : awaitsAmong (codeOf s) start end ≤ place + found
+  counted-among = omega (arith, h .found-are)
+
+  -- there are none, and its costs are charged
+  pub none-charged : {l : Limits} {b : FlowBudget} {q : Points} → found ≡ 0 → ChargedBack l b start end place m q
+      → FoundChecked s x y l b c place found m m t t q
+  none-charged {l} {b} {q} z p = record {
+    answer = p .answer ∙ none-run (codeOf s) (parameterIn (partsOf s)) l (y .words) (x .slots) (hostIn (partsOf s)) (exitSet s (y .words) c)
+        (word m costCell) b start (end - start) (λ i lt. h .solved .coded .costs i (omega (
+          arith,
+          lt,
+          counted-span .ordered,
+          counted-span .inside,
+          h .solved .coded .instructions,
+        ))) (sym (h .found-are) ∙ z)
+        ∙ ap (λ (is : List ℕ). awaitsRun (codeOf s) (parameterIn (partsOf s)) l (y .words) (x .slots) (hostIn (partsOf s)) (exitSet s (y .words) c) is b)
+        (sym (counted-span .is));
+    count = λ n last w. omega (arith, p .places n last w, z);
+    entries = λ n last w. no-entries (blockFacts s y c) facts-none;
+    earlier = λ n last w k lt. refl;
+    others = λ k a d. refl;
+  }
+    where
+      facts-none : length (blockFacts s y c) ≡ 0
+      facts-none =
+          points-length (codeOf s) (parameterIn (partsOf s)) (exitSet s (y .words) c) (body (codeOf s) c)
+          ∙ ap (λ (is : List ℕ). length (keep (awaitAt (codeOf s)) is)) (counted-span .is) ∙ sym (h .found-are) ∙ z
+
+      no-entries : (ps : List Point) → length ps ≡ 0 → Entries y t place ps
+      no-entries [] e = tt
+      no-entries (p ∷ ps) e = absurd (omega arith)
+
+-- the second gathering: what stays, and the running live set stands for what is live at the block's exit
+pub record Leaving (s : List ℕ) (x : Script) (y : Layout) (c start end place found : ℕ) (m₀ m t : Mem) : Type 0 where
+  pub counted : Counted s x y c start end place found m₀ t
+  pub coded : Coded s x y m
+  pub means : Means (y .words) (cell m (liveStateRow (y .blocks))) (exitSet s (y .words) c)
+  pub others : RunningOnly y m₀ m
+
+pub leaving : {s : List ℕ} {x : Script} {y : Layout} {c start end place found : ℕ} (w u : List ℕ) → Room y (length w)
+    → ((i : ℕ) → getD w i 0 < 2 ^ 64) → SetsRoom y (length u) → ((i : ℕ) → getD u i 0 < 2 ^ 64)
+    → Counted s x y c start end place found (scratch y w) (sets y u)
+    → {m : Mem} → m ≡ storeCell (scratch y w) (runningRow Liveness y) (gathered Liveness y (scratch y w) (sets y u) c)
+    → Leaving s x y c start end place found (scratch y w) m (sets y u)
+leaving {s} {x} {y} {c} w u room fits more fit h {m} g = record {
+  counted = h;
+  coded = solved-kept only (h .solved) .coded;
+  means = live-out-means w u room fits more fit (h .solved) c (h .inside) g;
+  others = only;
 }
   where
-    only : RunningOnly y (scratch y w) m′
+    only : RunningOnly y (scratch y w) m
     only = gather-others Liveness (gathered Liveness y (scratch y w) (sets y u) c) g
 
--- the points of a reachable block, by its span
-facts-are : {s : List ℕ} {y : Layout} {c start end : ℕ} → reachable (codeOf s) c ≡ true → Span s y c start end
-    → factsOf s (y .words) c ≡ awaitPoints (codeOf s) (parameterIn (partsOf s)) (exitSet s (y .words) c) (range start (end - start))
-facts-are {s} {y} {c} e h =
-    ap (λ (r : Bool). pick r (blockFacts s y c) []) e
-    ∙ ap (awaitPoints (codeOf s) (parameterIn (partsOf s)) (exitSet s (y .words) c)) (h .is)
-
-module _ {s : List ℕ} {x : Script} {y : Layout} {l : Limits} {b left : FlowBudget} {c place start end found : ℕ} {m₀ m t : Mem}
-    (h : Leaving s x y l b c place start end found left m₀ m t) where
-  -- the entries of its awaits end where they are put before
-  pub leaving-among : awaitsAmong (codeOf s) start end ≤ place + found
-  leaving-among = omega (arith, h .found-are)
-
+module _ {s : List ℕ} {x : Script} {y : Layout} {l : Limits} {b : FlowBudget} {c start end place found : ℕ} {m₀ m t : Mem}
+    (h : Leaving s x y c start end place found m₀ m t) where
   -- its awaits are checked: the answer is the block's, with how many awaits are reached up to its end
-  pub awaits-raised : {m′ t′ : Mem} {q r : Points} → AwaitsChecked s x y l left start end (place + found) m m′ t t′ q → r ≡ raisedTo (place + found) q
-      → BlockChecked s x y l b c place m₀ m′ t t′ r
+  pub awaits-raised : {m′ t′ : Mem} {q r : Points} → AwaitsChecked s x y l b start end (place + found) m m′ t t′ q → r ≡ raisedTo (place + found) q
+      → FoundChecked s x y l b c place found m₀ m′ t t′ r
   awaits-raised {m′} {t′} {q} {r} p e = record {
-    answer = ap pointsOf e ∙ raised-answer (place + found) q ∙ awaits-answer
-        ∙ ap (λ (z : Checking). andThen z (blockAwaits s x y l c)) (h .filled) ∙ sym (run-reached s x y l b c (h .reached));
-    count = λ n last z. let v = raised-place (place + found) q (sym e ∙ z) in
-        sym (v .2) ∙ ap (λ (k : ℕ). place + k) (h .found-are ∙ sym (facts-among (h .reached) (h .span)));
+    answer = ap pointsOf e ∙ raised-answer (place + found) q ∙ awaits-answer;
+    count = λ n last z. sym (raised-place (place + found) q (sym e ∙ z) .2);
     entries = λ n last z. let v = raised-place (place + found) q (sym e ∙ z) in
-        subst (λ (ps : List Point). Entries y t′ place ps) (sym (facts-are (h .reached) (h .span)))
+        subst (λ (is : List ℕ). Entries y t′ place (awaitPoints (codeOf s) (parameterIn (partsOf s)) live is)) (sym (span .is))
         (subst (λ (k : ℕ). Entries y t′ k (awaitPoints (codeOf s) (parameterIn (partsOf s)) live (range start (end - start))))
         (begins (v .0) last (v .1)) (p .entries (v .0) last (v .1) live (h .means)));
     earlier = λ n last z k lt. let v = raised-place (place + found) q (sym e ∙ z) in
@@ -310,11 +347,14 @@ module _ {s : List ℕ} {x : Script} {y : Layout} {l : Limits} {b left : FlowBud
       live : ℕ → Bool
       live = exitSet s (y .words) c
 
-      awaits-answer : pointsOf q ≡ blockAwaits s x y l c left
+      span : Span s y c start end
+      span = counted-span (h .counted)
+
+      awaits-answer : pointsOf q ≡ blockAwaits s x y l c b
       awaits-answer =
           p .answer live (h .means)
-          ∙ ap (λ (is : List ℕ). awaitsRun (codeOf s) (parameterIn (partsOf s)) l (y .words) (x .slots) (hostIn (partsOf s)) live is left)
-          (sym (h .span .is))
+          ∙ ap (λ (is : List ℕ). awaitsRun (codeOf s) (parameterIn (partsOf s)) l (y .words) (x .slots) (hostIn (partsOf s)) live is b)
+          (sym (span .is))
 
       -- the awaits change the running live set alone
       only : RunningOnly y m m′
@@ -322,4 +362,4 @@ module _ {s : List ℕ} {x : Script} {y : Layout} {l : Limits} {b left : FlowBud
 
       -- where the entries begin
       begins : (k : ℕ) (last : FlowBudget) → q ≡ Passed k last → k ≡ place
-      begins k last z = omega (arith, p .places k last z, h .found-are)
+      begins k last z = omega (arith, p .places k last z, h .counted .found-are)

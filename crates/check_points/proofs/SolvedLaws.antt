@@ -55,7 +55,7 @@ stays-running h = record {
 
 module _ {y : Layout} {m m′ : Mem} (h : RunningOnly y m m′) where
   -- a word of the cells before the rows
-  word-kept : (k i : ℕ) → k < 10 → word m′ k i ≡ word m k i
+  pub word-kept : (k i : ℕ) → k < 10 → word m′ k i ≡ word m k i
   word-kept k i lt = same-word m m′ k i (h .others k (λ e. omega arith) (λ e. omega arith))
 
   -- the instructions can be read as before
@@ -66,7 +66,7 @@ module _ {y : Layout} {m m′ : Mem} (h : RunningOnly y m m′) where
     slots = c .slots;
     offsets = λ i lt. word-kept offsetCell i (omega arith) ∙ c .offsets i lt;
     costs = λ i lt. word-kept costCell i (omega arith) ∙ c .costs i lt;
-    hosts = λ i lt. ap (λ (ws : List ℕ). member ws i) (h .others (hostsRow (y .blocks)) (λ e. omega arith) (λ e. omega arith)) ∙ c .hosts i lt;
+    hosts = λ some i lt. ap (λ (ws : List ℕ). member ws i) (h .others (hostsRow (y .blocks)) (λ e. omega arith) (λ e. omega arith)) ∙ c .hosts some i lt;
   }
 
   -- and so is all that the words hold

@@ -17,13 +17,13 @@ use Rattle.sheet.specs.Decode.{partsOf}
 use Rattle.script.specs.Script.{flowCode, parameterIn, hostIn}
 use Rattle.edges.specs.Flow.{Flows}
 use Rattle.fixed_points.specs.FixedPoints.{Scripted, Sets}
-use Rattle.verdict.specs.Points.{Point, blockRun, pointsRun, awaitPoints, points}
+use Rattle.verdict.specs.Points.{Point, awaitsRun, blockRun, pointsRun, awaitPoints, points}
 use Rattle.points.specs.declared.awaits.Points.{Points}
 use Rattle.points.specs.declared.awaits.Points.the-variants.{Passed, Refused}
 use Rattle.points.specs.declared.reads.Reads.{Reads}
 use Rattle.points.specs.declared.reads.Reads.the-variants.{Filled, Unfilled, Over}
 use Rattle.format.specs.declared.refusal.Refusal.the-variants.{UnfilledSlot, WorkLimit}
-use Rattle.points.specs.Rows.{Coded, pointsOf, Entries}
+use Rattle.points.specs.Rows.{Coded, awaitsAmong, pointsOf, Entries}
 
 -- the code of a sheet, its parameters and its host slots
 abbrev pub codeOf : List ℕ → List Instruction
@@ -60,6 +60,25 @@ refusedBy (Over b) = Refused WorkLimit b
 abbrev pub raisedTo : ℕ → Points → Points
 raisedTo next (Passed n b) = Passed next b
 raisedTo next (Refused r b) = Refused r b
+
+-- `check_found` may begin: block c is the instructions from start to end, with as many awaits as were found, and their entries are there
+pub record Counted (s : List ℕ) (x : Script) (y : Layout) (c start end place found : ℕ) (m t : Mem) : Type 0 where
+  pub solved : Solved s x y m t
+  pub inside : c < y .blocks
+  pub start-is : start ≡ word m startCell c
+  pub end-is : end ≡ word m endCell c
+  pub found-are : found ≡ awaitsAmong (codeOf s) start end
+  pub room : place + found ≤ y .awaits
+
+-- what `check_found` does: the awaits of block c from what is live at its exit
+pub record FoundChecked (s : List ℕ) (x : Script) (y : Layout) (l : Limits) (b : FlowBudget) (c place found : ℕ) (m m′ t t′ : Mem) (r : Points) : Type 0 where
+  pub answer : pointsOf r ≡ awaitsRun (codeOf s) (parameterIn (partsOf s)) l (y .words) (x .slots) (hostIn (partsOf s))
+      (liveExit (codeOf s) (parameterIn (partsOf s)) (y .words) c) (body (codeOf s) c) b
+  pub count : (n : ℕ) (left : FlowBudget) → r ≡ Passed n left → n ≡ place + found
+  pub entries : (n : ℕ) (left : FlowBudget) → r ≡ Passed n left
+      → Entries y t′ place (awaitPoints (codeOf s) (parameterIn (partsOf s)) (liveExit (codeOf s) (parameterIn (partsOf s)) (y .words) c) (body (codeOf s) c))
+  pub earlier : (n : ℕ) (left : FlowBudget) → r ≡ Passed n left → (k : ℕ) → k < 2 * y .blocks + place → cell t′ k ≡ cell t k
+  pub others : (k : ℕ) → (k ≡ stateRow (y .blocks) → ⊥) → (k ≡ liveStateRow (y .blocks) → ⊥) → cell m′ k ≡ cell m k
 
 -- what `check_block` does with block c, before which `place` awaits are reached
 pub record BlockChecked (s : List ℕ) (x : Script) (y : Layout) (l : Limits) (b : FlowBudget) (c place : ℕ) (m m′ t t′ : Mem) (r : Points) : Type 0 where

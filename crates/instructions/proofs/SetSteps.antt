@@ -2,18 +2,22 @@
 use mathlib.Core.Path.{_≡_, refl, ap, sym, _∙_}
 use mathlib.Core.Bool.{Bool, true, false}
 use mathlib.Core.List.{List, [], _∷_}
-use Prim.Native.Nat.{ℕ, zero, suc, _+_, _*_, _-_, _/_, _≤_, _<_}
+use Prim.Native.Nat.{ℕ, zero, suc, _+_, _*_, _-_, _/_, _%_, _^_, _≤_, _<_}
 use native.Mathlib.Omega.{arith}
+use native.Mathlib.Nat.{zero-mul}
+use mir.Val.{boolByte}
 use borrow.Author.Tests.{ltb-true, ltb-false}
 use lib.Dec.{ltb}
-use lib.ListN.{length, getD, replicate, length-replicate}
-use lib.Seq.{ext-getD}
+use lib.Bits.{bitOr, or-zero-r}
+use lib.ListN.{length, getD, set, replicate, length-replicate}
+use lib.Seq.{ext-getD, set-getD}
 use Rattle.operands.specs.Choice.{pick}
 use Rattle.operands.specs.Bytes.{u32At, numbersAt}
 use Rattle.bitset.specs.Sets.{inserted}
 use Rattle.bitset.specs.Rows.{row, patched, insertedAt}
+use Rattle.bitset.proofs.Digits.{mask}
 use Rattle.bitset.proofs.SetLaws.{length-inserted}
-use Rattle.bitset.proofs.RowLaws.{length-row, length-patched, patched-before, patched-in, patched-after, patched-self, row-same, inserted-row}
+use Rattle.bitset.proofs.RowLaws.{length-row, length-patched, patched-before, patched-in, patched-after, patched-self, row-same, inserted-row, put-slot}
 use Rattle.format.specs.Heads.{endAt}
 use Rattle.sheet.specs.Decode.{SlotKind, offsetOf, slotOf, recordsFrom}
 use Rattle.instructions.specs.Slots.{isHost}
@@ -180,3 +184,20 @@ module _ (s : List ℕ) (first n : ℕ) (l : List ℕ) (base w : ℕ) (room : ba
 pub cleared : (l : List ℕ) (base w : ℕ) (f : List ℕ → List ℕ) (x : List ℕ) → base + w ≤ length l → length (f (replicate w 0)) ≡ w
     → x ≡ patched l base (replicate w 0) → patched x base (f (row x base w)) ≡ patched l base (f (replicate w 0))
 cleared l base w f x h q e = rw e (replaced l base w f (replicate w 0) h (length-replicate w 0) (q ∙ sym (length-replicate w 0)))
+
+-- a slot's bit, or none, as the code makes it
+pub bit-made : (b : Bool) (slot : ℕ) → boolByte b * 2 ^ (slot % 64) % 2 ^ 64 ≡ pick b (2 ^ (slot % 64)) 0
+bit-made true slot = mask (slot % 64) (omega arith)
+bit-made false slot = ap (λ (x : ℕ). x % 2 ^ 64) (zero-mul (2 ^ (slot % 64)))
+
+-- and its store
+pub put-if : (l : List ℕ) (base slot : ℕ) (test : Bool) (m : ℕ) → base ≤ length l → m ≡ pick test (2 ^ (slot % 64)) 0
+    → set l (base + slot / 64) (bitOr (getD l (base + slot / 64) 0) m) ≡ pick test (insertedAt l base slot) l
+unfolding insertedAt inserted
+put-if l base slot true m h e =
+    ap (λ (x : ℕ). set l (base + slot / 64) (bitOr (getD l (base + slot / 64) 0) x)) (e ∙ sym (mask (slot % 64) (omega arith)))
+    ∙ put-slot bitOr l base slot h
+put-if l base slot false m h e =
+    ap (λ (x : ℕ). set l (base + slot / 64) (bitOr (getD l (base + slot / 64) 0) x)) e
+    ∙ ap (λ (x : ℕ). set l (base + slot / 64) x) (or-zero-r (getD l (base + slot / 64) 0))
+    ∙ set-getD l (base + slot / 64) 0

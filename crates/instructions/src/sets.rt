@@ -3,7 +3,7 @@ use crate::slot;
 use operands::instruction;
 use sheet::script::Script;
 ghost use mathlib.Core.Path.{_≡_};
-ghost use Prim.Native.Nat.{_+_, _*_, _/_, _≤_, _<_};
+ghost use Prim.Native.Nat.{_+_, _*_, _/_, _%_, _^_, _≤_, _<_};
 ghost use lib.ListN.{length};
 ghost use Rattle.operands.specs.Bytes.{numbersAt};
 ghost use Rattle.operands.specs.Choice.{pick};
@@ -36,14 +36,19 @@ pub fn insert_parameters(s: &[u8], script: Script, words: &mut [u64], base: usiz
     insert_listed(s, script.params_at, script.params, words, base, w);
 }
 
-// Puts the slot into the set that begins at base, if the test holds.
+// A slot's bit in its word where the test holds, else none.
+fn bit_if(slot: usize, test: bool) -> u64
+    ensures { λ r. ⌜ r ≡ pick test (2 ^ (slot % 64)) 0 ⌝ }
+{
+    (test as u64) << (slot % 64)
+}
+
+// Puts the slot into the set that begins at base, if the test holds. It stores either way: host slots stand in no order that a branch could follow.
 fn insert_if(words: &mut [u64], base: usize, slot: usize, test: bool)
     requires { ⌜ base + slot / 64 < length (now words) ⌝ }
     ensures { λ _. ⌜ now (words .exit) ≡ pick test (insertedAt (now (words .entry)) base slot) (now (words .entry)) ⌝ }
 {
-    if test {
-        bitset::insert(words, base, slot);
-    }
+    words[base + slot / 64] |= bit_if(slot, test);
 }
 
 // Puts those of so many slots, whose records stand from an offset on, that are host slots into the row at base.

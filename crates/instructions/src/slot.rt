@@ -16,8 +16,8 @@ pub struct SlotRecord {
     pub next: usize,
 }
 
-// The slot whose record stands at an offset.
-pub fn slot_at(s: &[u8], at: usize) -> SlotRecord
+// The slot whose record stands at an offset, of whatever type.
+fn any_slot_at(s: &[u8], at: usize) -> SlotRecord
     requires { ⌜ SlotStands (now s) at ⌝ }
     ensures { λ r. ⌜ r ≡ slotRecordAt (now (s .entry)) at ⌝ }
 {
@@ -35,6 +35,22 @@ pub fn slot_at(s: &[u8], at: usize) -> SlotRecord
         inline_host: host,
         next: end,
     }
+}
+
+// The slot whose record stands at an offset. In a body of two bytes, as most are, the second is the type.
+pub fn slot_at(s: &[u8], at: usize) -> SlotRecord
+    requires { ⌜ SlotStands (now s) at ⌝ }
+    ensures { λ r. ⌜ r ≡ slotRecordAt (now (s .entry)) at ⌝ }
+{
+    if bytes::u16_at(s, at) == 4 {
+        let b = s[at + 5];
+        return SlotRecord {
+            physical: s[at + 4],
+            inline_host: (b == types::HOST) | (b == types::REFERENCE),
+            next: at + 6,
+        };
+    }
+    any_slot_at(s, at)
 }
 
 impl SlotRecord {

@@ -8,13 +8,15 @@ use borrow.Author.Tests.{ltb-false}
 use lib.Dec.{ltb}
 use lib.ListN.{length, take, replicate, length-replicate, List·getD-eq-default}
 use Rattle.bitset.specs.Rows.{patched}
+use Rattle.bitset.specs.Sets.{member}
 use Rattle.format.specs.Types.{absent}
-use Rattle.memory.specs.Cells.{storeCell, total}
+use Rattle.memory.specs.Cells.{Mem, cell, storeCell, total}
 use Rattle.memory.specs.Names.{hostsRow}
 use Rattle.memory.specs.declared.layout.Layout.{Layout}
 use Rattle.memory.specs.Scratch.{scratch, scratchWidths, Room}
+use Rattle.memory.proofs.CellLaws.{cell-store-same, cell-store-other}
 use Rattle.memory.proofs.CellRows.{Lies, lies-fits, lies-patched}
-use Rattle.memory.proofs.ScratchLaws.{row-lies}
+use Rattle.memory.proofs.ScratchLaws.{scratch-length, row-lies}
 use Rattle.sheet.specs.declared.script.Script.{Script}
 use Rattle.sheet.specs.Decode.{Parts, partsOf}
 use Rattle.instructions.specs.Slots.{isHost}
@@ -24,6 +26,7 @@ use Rattle.instructions.proofs.SetSteps.{length-hosts}
 use Rattle.instructions.proofs.SetMembers.{hosts-in-row, records-count}
 use Rattle.script.specs.Script.{hostIn}
 use Rattle.answer.specs.Words.{Means}
+use Rattle.judge.specs.Judge.{Hosted}
 
 -- ---- where it lies
 
@@ -76,3 +79,20 @@ module _ (s : List ℕ) (x : Script) (sound : Sound s x) where
   -- the row stands for the host slots
   pub hosts-mean : (w : ℕ) → x .slots ≤ 64 * w → Means w (hostRow (partsOf s) w) (hostIn (partsOf s))
   hosts-mean w wide i lt = hosts-in-row s x sound w wide i ∙ host-slot-in i
+
+  -- ---- what `hosts_if` does
+
+  -- there is no await, and nothing changes
+  pub hosted-none : (y : Layout) (m : Mem) → x .awaits ≡ 0 → Hosted s x y m m
+  hosted-none y m e = record { row = λ h. absurd (omega arith); others = λ k ne. refl }
+
+  -- the row is stored
+  pub hosted-row : (y : Layout) (w : List ℕ) (m′ : Mem) → x .slots ≤ 64 * y .words
+      → m′ ≡ storeCell (scratch y w) (hostsRow (y .blocks)) (hostRow (partsOf s) (y .words)) → Hosted s x y (scratch y w) m′
+  hosted-row y w m′ wide e = record {
+    row = λ h i lt. ap (λ (v : Mem). member (cell v (hostsRow (y .blocks))) i) e
+        ∙ ap (λ (ws : List ℕ). member ws i)
+        (cell-store-same (scratch y w) (hostsRow (y .blocks)) (hostRow (partsOf s) (y .words)) (omega (arith, scratch-length y w)))
+        ∙ hosts-mean (y .words) wide i lt;
+    others = λ k ne. ap (λ (v : Mem). cell v k) e ∙ cell-store-other (scratch y w) (hostsRow (y .blocks)) (hostRow (partsOf s) (y .words)) k ne;
+  }

@@ -1,12 +1,14 @@
 -- `judge`: what its calls ask for, and what it does by what they do. Assumes nothing.
-use mathlib.Core.Path.{_≡_, sym, ap, subst, _∙_}
+use mathlib.Core.Path.{_≡_, refl, sym, ap, subst, _∙_}
 use mathlib.Core.Bool.{Bool}
-use mathlib.Core.List.{List}
-use Prim.Native.Nat.{ℕ, _*_, _-_, _^_, _≤_, _<_}
+use mathlib.Core.List.{List, _∷_, _++_}
+use Prim.Native.Nat.{ℕ, _+_, _*_, _-_, _/_, _^_, _≤_, _<_}
 use native.Mathlib.Omega.{arith}
 use borrow.Author.Tests.{lt-ltb, le-ltb}
 use lib.ListN.{length}
 use Rattle.dataflow.specs.Lists.{pick}
+use Rattle.dataflow.specs.Charges.{leaderCharges, operandCharges, reachabilityCharges}
+use Rattle.dataflow.specs.Results.{blockCount}
 use Rattle.budget.specs.declared.FlowBudget.{FlowBudget}
 use Rattle.budget.specs.declared.Limits.{Limits}
 use Rattle.budget.specs.declared.Charged.{Charged}
@@ -19,65 +21,75 @@ use Rattle.memory.specs.Scratch.{scratch, Room}
 use Rattle.memory.specs.Sets.{sets, SetsRoom}
 use Rattle.sheet.specs.declared.script.Script.{Script}
 use Rattle.sheet.specs.Decode.{partsOf}
+use Rattle.script.specs.Script.{flowCode}
 use Rattle.instructions.specs.Sound.{Sound}
-use Rattle.script.specs.Script.{flowCode, parameterIn, hostIn}
-use Rattle.fixed_points.specs.FixedPoints.{fixedPointsCharges}
-use Rattle.verdict.specs.Points.{Checking, stop, on, pointsRun, points}
+use Rattle.rooms.specs.declared.Lent.{Lent}
 use Rattle.rooms.specs.declared.Staged.{Staged}
 use Rattle.rooms.specs.declared.Staged.the-variants as staging
-use Rattle.rooms.specs.Rooms.{Indexes}
-use Rattle.graph.specs.Graph.{graphOf, Graphed}
+use Rattle.rooms.specs.Rooms.{layoutOf, roomsOf, ifMet, Indexes}
+use Rattle.rooms.proofs.RoomLaws.{rooms-yes}
+use Rattle.graph.specs.Graph.{ifOk, stage, graphOf, Graphed}
+use Rattle.outcome.specs.Outcome.{Outcome, refused, afterGraph, judged}
 use Rattle.judge.specs.declared.Judged.{Judged}
 use Rattle.judge.specs.declared.Judged.the-variants.{Accepted, Refused}
-use Rattle.judge.specs.Judge.{afterPoints, afterRounds, afterGraph, judgeOf, refusedAt, Begun, Solves, Accepts, Judges}
+use Rattle.judge.specs.Judge.{outcomeBy, refusedAt, Begun, Solves, Accepts, Judges}
 
--- ---- the layout of an answer that accepts
+-- ---- where `graph` goes on, its layout is that of the script
 
--- after `check_points`
-points-layout : (y z : Layout) (n awaits : ℕ) (k : Checking) (left : FlowBudget) → afterPoints y n k ≡ Accepted z awaits left → y ≡ z
-points-layout y z n awaits (on b) left e = cc
-points-layout y z n awaits (stop r b) left e = let o : _≡_ {A = ℕ} 0 1 = cc in absurd (omega arith)
+-- behind charges that leave the layout as it is
+staged-layout : (c : Charged) (y y′ : Layout) (left : FlowBudget) → ifMet c (staging.Ok y) ≡ staging.Ok y′ left → y ≡ y′
+staged-layout (charging.Ok b) y y′ left e = cc
+staged-layout (charging.Over b) y y′ left e = let o : _≡_ {A = ℕ} 0 1 = cc in absurd (omega arith)
 
--- after the two rounds
-rounds-layout : (s : List ℕ) (x : Script) (l : Limits) (y z : Layout) (awaits : ℕ) (c : Charged) (left : FlowBudget)
-    → afterRounds s x l y c ≡ Accepted z awaits left → y ≡ z
-rounds-layout s x l y z awaits (charging.Ok b) left e =
-    points-layout y z (length (points (flowCode (partsOf s)) (parameterIn (partsOf s)) (y .words))) awaits
-    (pointsRun (flowCode (partsOf s)) (parameterIn (partsOf s)) l (y .words) (x .slots) (hostIn (partsOf s)) b) left e
-rounds-layout s x l y z awaits (charging.Over b) left e = let o : _≡_ {A = ℕ} 0 1 = cc in absurd (omega arith)
+-- behind the rooms
+rooms-layout : (l : Limits) (y : Layout) (n : ℕ) (lent : Lent) (c : Charged) (y′ : Layout) (left : FlowBudget)
+    → ifMet c (roomsOf l y n lent) ≡ staging.Ok y′ left → y ≡ y′
+rooms-layout l y n lent (charging.Ok b) y′ left e = rooms-yes l y n lent b y′ left e .0
+rooms-layout l y n lent (charging.Over b) y′ left e = let o : _≡_ {A = ℕ} 0 1 = cc in absurd (omega arith)
+
+-- behind a stage and such charges
+stage-layout : (l : Limits) (cs : List ℕ) (y : Layout) (r : Staged) (y′ : Layout) (left : FlowBudget)
+    → ((z : Layout) (b : FlowBudget) → r ≡ staging.Ok z b → y ≡ z) → ifOk r (stage l cs) ≡ staging.Ok y′ left → y ≡ y′
+stage-layout l cs y (staging.Ok z b) y′ left h e = h z b refl ∙ staged-layout (charged l b cs) z y′ left e
+stage-layout l cs y (staging.Refused n b) y′ left h e = let o : _≡_ {A = ℕ} 0 1 = cc in absurd (omega arith)
+
+graph-layout : (s : List ℕ) (x : Script) (l : Limits) (lent : Lent) (n : ℕ) (b : FlowBudget) (y : Layout) (left : FlowBudget)
+    → graphOf s x l lent n b ≡ staging.Ok y left → layoutOf x (blockCount (flowCode (partsOf s))) ≡ y
+unfolding graphOf
+graph-layout s x l lent n b y left e =
+    stage-layout l (operandCharges (flowCode (partsOf s)) ++ reachabilityCharges (flowCode (partsOf s)))
+    (layoutOf x (blockCount (flowCode (partsOf s))))
+    (ifMet (charged l b (0 ∷ leaderCharges (flowCode (partsOf s)))) (roomsOf l (layoutOf x (blockCount (flowCode (partsOf s)))) n lent))
+    y left
+    (λ z d q. rooms-layout l (layoutOf x (blockCount (flowCode (partsOf s)))) n lent
+    (charged l b (0 ∷ leaderCharges (flowCode (partsOf s)))) z d q) e
 
 -- ---- `judge`
 
 module _ (s : List ℕ) (x : Script) (l : Limits) (records : ℕ) (b : FlowBudget) (w v : List ℕ) where
-  -- the answer if too little scratch is lent
-  short-answer : length w < 4 * x .count → Refused NoRoom b ≡ judgeOf s x l (record { sets = length v; records = records }) (length w) b
-  unfolding judgeOf
-  short-answer h =
-      ap (λ (t : Bool). pick t (Refused NoRoom b) (afterGraph s x l (graphOf s x l (record { sets = length v; records = records }) (length w) b)))
-      (sym (lt-ltb (length w) (4 * x .count) h))
+  -- the answer by whether too little scratch is lent
+  abbrev answer-if : Bool → Outcome
+  answer-if t =
+      pick t (refused NoRoom (x .id) b) (afterGraph s x l (graphOf s x l (record { sets = length v; records = records }) (length w) b))
 
-  -- too little scratch is lent
+  -- too little is lent
   pub judges-short : (w′ v′ : List ℕ) → length w < 4 * x .count → Judges s x l records b w w′ v v′ (Refused NoRoom b)
   judges-short w′ v′ h = record {
-    answer = short-answer h;
+    answer = ap answer-if (sym (lt-ltb (length w) (4 * x .count) h));
     accepts = λ y awaits left q. let o : _≡_ {A = ℕ} 0 1 = cc in absurd (omega arith);
   }
 
   -- enough is lent, and `graph` was called
   module _ (enough : 4 * x .count ≤ length w) (w₁ v₁ : List ℕ) (g : Staged) (f : Graphed s x l records b w w₁ v v₁ g) where
     -- the answer is what follows that of `graph`
-    answer-on : afterGraph s x l g ≡ judgeOf s x l (record { sets = length v; records = records }) (length w) b
-    unfolding judgeOf
-    answer-on =
-        ap (afterGraph s x l) (f .answer)
-        ∙ ap (λ (t : Bool). pick t (Refused NoRoom b) (afterGraph s x l (graphOf s x l (record { sets = length v; records = records }) (length w) b)))
-        (sym (le-ltb (length w) (4 * x .count) enough))
+    answer-on : afterGraph s x l g ≡ judged s x l (record { scratch = length w; sets = length v; records = records }) b
+    answer-on = ap (afterGraph s x l) (f .answer) ∙ ap answer-if (sym (le-ltb (length w) (4 * x .count) enough))
 
     -- `graph` refused
     pub judges-refused : (n : Refusal) (z : FlowBudget) (r : Judged) → g ≡ staging.Refused n z → r ≡ refusedAt g
         → Judges s x l records b w w₁ v v₁ r
     judges-refused n z r e er = record {
-      answer = er ∙ ap refusedAt e ∙ ap (afterGraph s x l) (sym e) ∙ answer-on;
+      answer = ap (outcomeBy (x .id)) (er ∙ ap refusedAt e) ∙ ap (afterGraph s x l) (sym e) ∙ answer-on;
       accepts = λ y awaits left q. let o : _≡_ {A = ℕ} 0 1 = cc in absurd (omega arith);
     }
 
@@ -86,6 +98,12 @@ module _ (s : List ℕ) (x : Script) (l : Limits) (records : ℕ) (b : FlowBudge
       -- what it left behind
       indexes : Indexes s x (record { sets = length v; records = records }) w₁ y
       indexes = f .rooms y left e
+
+      -- as many words a set as the slots take
+      words-are : y .words ≡ (x .slots + 63) / 64
+      words-are =
+          ap (λ (z : Layout). z .words)
+          (sym (graph-layout s x l (record { sets = length v; records = records }) (length w) b y left (sym (f .answer) ∙ e)))
 
       -- what `solve` asks: the sets buffer is as long as it was lent
       pub solve-asks : length v₁ ≡ length v → Sound s x → l .work < 2 ^ 64 - 1
@@ -108,15 +126,16 @@ module _ (s : List ℕ) (x : Script) (l : Limits) (records : ℕ) (b : FlowBudge
           → Solves s x y l left (scratch y w₂) (sets y v₂) r → Judges s x l records b w w₂ v v₂ r
       judges-on w₂ v₂ r long sets-long h = record {
         answer = h .answer ∙ ap (afterGraph s x l) (sym e) ∙ answer-on;
-        accepts = λ z awaits last q. subst (λ (u : Layout). Accepts s x (record { sets = length v; records = records }) w₂ v₂ u)
-            (rounds-layout s x l y z awaits
-            (charged l left (fixedPointsCharges (flowCode (partsOf s)) (parameterIn (partsOf s)) (y .words))) last (sym (h .answer) ∙ q))
+        accepts = λ z awaits last q.
+            let k = h .finished z awaits last q in
+            subst (λ (u : Layout). Accepts s x (record { sets = length v; records = records }) w₂ v₂ u) (sym (k .0))
             (record {
               fits = indexes .fits;
+              words = words-are;
               awaits = indexes .awaits;
               room = subst (Room y) (sym long) (indexes .room);
               sets-room = subst (SetsRoom y) (sym sets-long) (indexes .sets-room);
               records = indexes .records;
-              finished = h .finished z awaits last q;
+              finished = k .1;
             });
       }

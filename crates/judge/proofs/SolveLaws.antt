@@ -1,81 +1,57 @@
 -- `solve`: what its calls ask for, and what it does by what they do. Assumes nothing.
 use mathlib.Core.Path.{_≡_, refl, sym, ap, subst, _∙_}
-use mathlib.Core.List.{List, []}
+use mathlib.Core.List.{List}
 use Prim.Native.Nat.{ℕ, _*_, _-_, _^_, _≤_, _<_}
-use native.Mathlib.Decide.{decLt}
 use native.Mathlib.Omega.{arith}
 use lib.ListN.{length}
 use Rattle.bitset.specs.Sets.{member}
-use Rattle.dataflow.specs.Lists.{elem}
-use Rattle.dataflow.specs.Code.{Instruction, instructionAt}
 use Rattle.budget.specs.declared.FlowBudget.{FlowBudget}
 use Rattle.budget.specs.declared.Limits.{Limits}
 use Rattle.budget.specs.declared.Charged.{Charged}
 use Rattle.budget.specs.declared.Charged.the-variants as charging
 use Rattle.budget.specs.Budget.{charged, budgetOf}
 use Rattle.format.specs.declared.refusal.Refusal.the-variants.{WorkLimit}
-use Rattle.memory.specs.Cells.{Mem, cell, storeCell}
-use Rattle.memory.specs.Names.{offsetCell, initializedRow, liveRow, parametersRow, hostsRow}
+use Rattle.memory.specs.Cells.{Mem}
+use Rattle.memory.specs.Names.{offsetCell, initializedRow, liveRow, parametersRow}
 use Rattle.memory.specs.declared.layout.Layout.{Layout}
 use Rattle.memory.specs.Scratch.{scratch, Room}
 use Rattle.memory.specs.Sets.{SetsRoom}
-use Rattle.memory.proofs.CellLaws.{cell-store-same, cell-store-other}
-use Rattle.memory.proofs.ScratchLaws.{scratch-length}
 use Rattle.sheet.specs.declared.script.Script.{Script}
 use Rattle.sheet.specs.Decode.{partsOf}
-use Rattle.instructions.specs.Sets.{hostRow}
 use Rattle.instructions.specs.Sound.{Sound}
-use Rattle.script.specs.Script.{flowCode, parameterIn, hostIn}
-use Rattle.script.proofs.ScriptLaws.{code-length, code-at, code-past, checked}
+use Rattle.script.specs.Script.{flowCode, parameterIn}
+use Rattle.script.proofs.ScriptLaws.{code-length}
 use Rattle.edges.proofs.EdgeLaws.{same-word}
 use Rattle.blocks.specs.Blocks.{Block}
+use Rattle.outcome.proofs.ScriptedLaws.{scripted}
 use Rattle.fixed_points.specs.FixedPoints.{Scripted, fixedPointsCharges, Fixed}
 use Rattle.fixed_points.specs.Stages.{Flowing}
-use Rattle.answer.specs.Words.{Means}
 use Rattle.verdict.specs.Points.{points}
 use Rattle.points.specs.declared.awaits.Points.{Points}
 use Rattle.points.specs.declared.awaits.Points.the-variants.{Passed}
 use Rattle.points.specs.declared.awaits.Points.the-variants as pointing
 use Rattle.points.specs.Rows.{pointsOf}
 use Rattle.check_points.specs.CheckPoints.{Solved, PointsChecked}
+use Rattle.outcome.specs.Outcome.{accepted, afterPoints, afterRounds}
 use Rattle.judge.specs.declared.Judged.{Judged}
 use Rattle.judge.specs.declared.Judged.the-variants.{Accepted, Refused}
-use Rattle.judge.specs.Judge.{afterPoints, afterRounds, pointed, Begun, Finished, Solves}
-use Rattle.judge.proofs.HostLaws.{hosts-mean}
+use Rattle.judge.specs.Judge.{outcomeBy, pointed, Begun, Hosted, Finished, Solves}
 use Rattle.judge.proofs.CellsKept.{Still, still-then, flows-still, block-still, all-costs}
 
 -- ---- the answer of `check_points`
 
 -- as that of the whole, if it counts the awaits
-pointed-is : (y : Layout) (count : ℕ) (p : Points) → ((n : ℕ) (left : FlowBudget) → p ≡ Passed n left → n ≡ count)
-    → pointed y p ≡ afterPoints y count (pointsOf p)
-pointed-is y count (Passed n b) h = ap (λ (k : ℕ). Accepted y k b) (h n b refl)
-pointed-is y count (pointing.Refused r b) h = refl
+pointed-is : (s : List ℕ) (x : Script) (l : Limits) (y : Layout) (p : Points)
+    → ((n : ℕ) (left : FlowBudget) → p ≡ Passed n left → n ≡ length (points (flowCode (partsOf s)) (parameterIn (partsOf s)) (y .words)))
+    → outcomeBy (x .id) (pointed y p) ≡ afterPoints s x l y (pointsOf p)
+pointed-is s x l y (Passed n b) h = ap (λ (k : ℕ). accepted (x .id) (y .blocks) k b) (h n b refl)
+pointed-is s x l y (pointing.Refused r b) h = refl
 
--- where it accepts, it passed
-accepted-passed : (y z : Layout) (p : Points) (awaits : ℕ) (left : FlowBudget) → pointed y p ≡ Accepted z awaits left → p ≡ Passed awaits left
-accepted-passed y z (Passed n b) awaits left e = cc
+-- where it accepts, it passed, and the layout is the same
+accepted-passed : (y z : Layout) (p : Points) (awaits : ℕ) (left : FlowBudget) → pointed y p ≡ Accepted z awaits left
+    → (p ≡ Passed awaits left) × (z ≡ y)
+accepted-passed y z (Passed n b) awaits left e = (cc, cc)
 accepted-passed y z (pointing.Refused r b) awaits left e = let o : _≡_ {A = ℕ} 0 1 = cc in absurd (omega arith)
-
--- ---- the code of a sheet that passed
-
-module _ (s : List ℕ) (x : Script) (sound : Sound s x) where
-  -- no instruction of it empties a slot
-  nothing-emptied : (i : ℕ) → instructionAt (flowCode (partsOf s)) i .emptied ≡ []
-  nothing-emptied i = go (decLt i (x .count))
-    where
-      go : Dec (i < x .count) → instructionAt (flowCode (partsOf s)) i .emptied ≡ []
-      go (yes l) = ap (λ (v : Instruction). v .emptied) (code-at s x sound i l)
-      go (no l) = ap (λ (v : Instruction). v .emptied) (code-past s x sound i (omega arith))
-
-  -- it meets what `fixed_points` asks of code
-  pub scripted : (words : ℕ) → x .slots ≤ 64 * words → Scripted (flowCode (partsOf s)) (parameterIn (partsOf s)) words
-  scripted words wide = record {
-    slots = x .slots;
-    checked = checked s x sound;
-    wide = wide;
-    empties = λ i t. ap (elem t) (nothing-emptied i);
-  }
 
 -- ---- the stages
 
@@ -93,7 +69,7 @@ module _ (s : List ℕ) (x : Script) (y : Layout) (m t : Mem) (begun : Begun s x
       → Room y n × SetsRoom y k × Flowing y m × (l .work < 2 ^ 64 - 1)
   rounds-ask l n k room sets-room h = (room, sets-room, flowing, h)
 
-  -- what `hosts` asks: as many words as were lent
+  -- what `hosts_if` asks: as many words as were lent
   pub hosts-ask : (n n′ : ℕ) → n′ ≡ n → Room y n → Room y n′ × (Sound s x) × (x .slots ≤ 64 * y .words)
   hosts-ask n n′ e room = (subst (Room y) (sym e) room, begun .sound, begun .fits .slots)
 
@@ -107,13 +83,14 @@ module _ (s : List ℕ) (x : Script) (y : Layout) (m t : Mem) (begun : Begun s x
     pub solves-over : (z : FlowBudget) (m′ t′ : Mem) (r : Judged) → c ≡ charging.Over z → r ≡ Refused WorkLimit (budgetOf c)
         → Solves s x y l b m′ t′ r
     solves-over z m′ t′ r eo er = record {
-      answer = er ∙ ap (λ (d : Charged). Refused WorkLimit (budgetOf d)) eo ∙ ap (afterRounds s x l y) (sym eo ∙ rounds-charged);
+      answer = ap (outcomeBy (x .id)) (er ∙ ap (λ (d : Charged). Refused WorkLimit (budgetOf d)) eo)
+          ∙ ap (afterRounds s x l y) (sym eo ∙ rounds-charged);
       finished = λ y′ awaits left q. let o : _≡_ {A = ℕ} 0 1 = cc in absurd (omega arith);
     }
 
-    -- all were met, and then the row of the host slots was stored
+    -- all were met, and then the row of the host slots was stored where it is asked for
     module _ (left : FlowBudget) (ec : c ≡ charging.Ok left) (m₂ : Mem)
-        (eh : m₂ ≡ storeCell (scratch y w) (hostsRow (y .blocks)) (hostRow (partsOf s) (y .words))) where
+        (eh : Hosted s x y (scratch y w) m₂) where
       -- the rounds leave what the words hold of the script
       rounds-still : Still y m (scratch y w)
       rounds-still = record {
@@ -123,15 +100,11 @@ module _ (s : List ℕ) (x : Script) (y : Layout) (m t : Mem) (begun : Begun s x
       }
 
       -- so does that store
-      stored-other : (k : ℕ) → (k ≡ hostsRow (y .blocks) → ⊥) → cell m₂ k ≡ cell (scratch y w) k
-      stored-other k ne =
-          ap (λ (v : Mem). cell v k) eh ∙ cell-store-other (scratch y w) (hostsRow (y .blocks)) (hostRow (partsOf s) (y .words)) k ne
-
       hosts-still : Still y (scratch y w) m₂
       hosts-still = record {
-        low = λ k lt. stored-other k (λ e. omega arith);
-        edges = λ k lo hi. stored-other k (λ e. omega arith);
-        parameters = stored-other (parametersRow (y .blocks)) (λ e. omega arith);
+        low = λ k lt. eh .others k (λ e. omega arith);
+        edges = λ k lo hi. eh .others k (λ e. omega arith);
+        parameters = eh .others (parametersRow (y .blocks)) (λ e. omega arith);
       }
 
       still : Still y m m₂
@@ -140,14 +113,6 @@ module _ (s : List ℕ) (x : Script) (y : Layout) (m t : Mem) (begun : Begun s x
       -- each block
       block-here : (d : ℕ) → d < y .blocks → Block (flowCode (partsOf s)) (parameterIn (partsOf s)) m₂ d
       block-here d lt = block-still still d lt (begun .holding .block d lt)
-
-      -- the row
-      hosts-here : Means (y .words) (cell m₂ (hostsRow (y .blocks))) (hostIn (partsOf s))
-      hosts-here i lt =
-          ap (λ (v : Mem). member (cell v (hostsRow (y .blocks))) i) eh
-          ∙ ap (λ (ws : List ℕ). member ws i)
-          (cell-store-same (scratch y w) (hostsRow (y .blocks)) (hostRow (partsOf s) (y .words)) (omega (arith, scratch-length y w)))
-          ∙ hosts-mean s x (begun .sound) (y .words) (begun .fits .slots) i lt
 
       -- the words hold what `check_points` works on
       pub solved : Solved s x y m₂ t₁
@@ -158,7 +123,7 @@ module _ (s : List ℕ) (x : Script) (y : Layout) (m t : Mem) (begun : Begun s x
           slots = begun .fits .slots;
           offsets = λ i lt. same-word m m₂ offsetCell i (still .low offsetCell (omega arith)) ∙ begun .holding .index .offsets i lt;
           costs = λ i lt. all-costs y (begun .fits .blocks) block-here i (omega (arith, code-length s x (begun .sound)));
-          hosts = hosts-here;
+          hosts = λ some. eh .row (subst (λ (n : ℕ). 0 < n) (begun .awaits) some);
         };
         scripted = scripted-here;
         flows = flows-still still (begun .holding .flows);
@@ -197,8 +162,9 @@ module _ (s : List ℕ) (x : Script) (y : Layout) (m t : Mem) (begun : Begun s x
         -- its answer is that of all
         pub solves-on : (r : Judged) → r ≡ pointed y p → Solves s x y l b m₃ t₃ r
         solves-on r er = record {
-          answer = er ∙ pointed-is y (length (points (flowCode (partsOf s)) (parameterIn (partsOf s)) (y .words))) p (g .count)
-              ∙ ap (afterPoints y (length (points (flowCode (partsOf s)) (parameterIn (partsOf s)) (y .words)))) (g .answer)
+          answer = ap (outcomeBy (x .id)) er ∙ pointed-is s x l y p (g .count) ∙ ap (afterPoints s x l y) (g .answer)
               ∙ ap (afterRounds s x l y) (sym ec ∙ rounds-charged);
-          finished = λ z awaits last q. all-finished awaits last (accepted-passed y z p awaits last (sym er ∙ q));
+          finished = λ z awaits last q.
+              let a = accepted-passed y z p awaits last (sym er ∙ q) in
+              (a .1, all-finished awaits last (a .0));
         }

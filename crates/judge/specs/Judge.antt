@@ -1,17 +1,14 @@
--- flow.rs `verify` on a sheet that passed the checks: the early 10, then the source's steps.
+-- flow.rs `verify` on a sheet that passed the checks: what `outcome` says, and what both buffers then hold.
 use mathlib.Core.Path.{_≡_}
 use mathlib.Core.List.{List}
-use Prim.Native.Nat.{ℕ, _*_, _≤_, _<_}
-use lib.Dec.{ltb}
+use Prim.Native.Nat.{ℕ, _+_, _/_, _≤_, _<_}
 use lib.ListN.{length}
-use Rattle.dataflow.specs.Lists.{pick}
 use Rattle.budget.specs.declared.FlowBudget.{FlowBudget}
 use Rattle.budget.specs.declared.Limits.{Limits}
-use Rattle.budget.specs.declared.Charged.{Charged}
-use Rattle.budget.specs.declared.Charged.the-variants as charging
 use Rattle.budget.specs.Budget.{charged}
-use Rattle.format.specs.declared.refusal.Refusal.the-variants.{NoRoom, WorkLimit}
+use Rattle.format.specs.declared.refusal.Refusal.the-variants.{NoRoom}
 use Rattle.memory.specs.Cells.{Mem, cell}
+use Rattle.memory.specs.Names.{hostsRow}
 use Rattle.memory.specs.declared.layout.Layout.{Layout}
 use Rattle.memory.specs.Scratch.{scratch, Room}
 use Rattle.memory.specs.Sets.{sets, SetsRoom}
@@ -26,8 +23,10 @@ use Rattle.leaders.specs.Index.{Fits}
 use Rattle.blocks.specs.Blocks.{Block}
 use Rattle.edges.specs.Flow.{Flows, Fresh}
 use Rattle.fixed_points.specs.FixedPoints.{Sets, fixedPointsCharges}
-use Rattle.graph.specs.Graph.{graphOf, Holding}
-use Rattle.verdict.specs.Points.{Checking, stop, on, pointsRun, points}
+use Rattle.graph.specs.Graph.{Holding}
+use Rattle.answer.specs.Words.{Means}
+use Rattle.verdict.specs.Points.{points}
+use Rattle.outcome.specs.Outcome.{Outcome, accepted, refused, afterRounds, judged}
 use Rattle.points.specs.declared.awaits.Points.{Points}
 use Rattle.points.specs.declared.awaits.Points.the-variants.{Passed}
 use Rattle.points.specs.declared.awaits.Points.the-variants as pointing
@@ -35,27 +34,10 @@ use Rattle.points.specs.Rows.{Entries}
 use Rattle.judge.specs.declared.Judged.{Judged}
 use Rattle.judge.specs.declared.Judged.the-variants.{Accepted, Refused}
 
--- after `check_points`: so many awaits are reached
-abbrev pub afterPoints : Layout → ℕ → Checking → Judged
-afterPoints y awaits (stop r b) = Refused r b
-afterPoints y awaits (on b) = Accepted y awaits b
-
--- after the two rounds
-abbrev pub afterRounds : List ℕ → Script → Limits → Layout → Charged → Judged
-afterRounds s x l y (charging.Over b) = Refused WorkLimit b
-afterRounds s x l y (charging.Ok b) =
-    afterPoints y (length (points (flowCode (partsOf s)) (parameterIn (partsOf s)) (y .words)))
-    (pointsRun (flowCode (partsOf s)) (parameterIn (partsOf s)) l (y .words) (x .slots) (hostIn (partsOf s)) b)
-
--- after `graph` and `reachability`
-abbrev pub afterGraph : List ℕ → Script → Limits → Staged → Judged
-afterGraph s x l (staging.Refused r b) = Refused r b
-afterGraph s x l (staging.Ok y b) =
-    afterRounds s x l y (charged l b (fixedPointsCharges (flowCode (partsOf s)) (parameterIn (partsOf s)) (y .words)))
-
--- "then scratch below 4 × N words is 10. Then the source's steps". n words of scratch are lent.
-unfoldable pub judgeOf : List ℕ → Script → Limits → Lent → ℕ → FlowBudget → Judged
-judgeOf s x l lent n b = pick (ltb n (4 * x .count)) (Refused NoRoom b) (afterGraph s x l (graphOf s x l lent n b))
+-- an answer as that of the call, for the function with this id
+abbrev pub outcomeBy : ℕ → Judged → Outcome
+outcomeBy id (Accepted y n b) = accepted id (y .blocks) n b
+outcomeBy id (Refused r b) = refused r id b
 
 -- what `solve` begins with
 pub record Begun (s : List ℕ) (x : Script) (y : Layout) (m t : Mem) : Type 0 where
@@ -65,6 +47,11 @@ pub record Begun (s : List ℕ) (x : Script) (y : Layout) (m t : Mem) : Type 0 w
   pub holding : Holding s x y m
   pub fresh : Fresh y t
 
+-- what `hosts_if` does: the row of the host slots, if there is an await
+pub record Hosted (s : List ℕ) (x : Script) (y : Layout) (m m′ : Mem) : Type 0 where
+  pub row : 0 < x .awaits → Means (y .words) (cell m′ (hostsRow (y .blocks))) (hostIn (partsOf s))
+  pub others : (k : ℕ) → (k ≡ hostsRow (y .blocks) → ⊥) → cell m′ k ≡ cell m k
+
 -- what the words then hold of a script that is accepted
 pub record Finished (s : List ℕ) (y : Layout) (m t : Mem) : Type 0 where
   pub block : (c : ℕ) → c < y .blocks → Block (flowCode (partsOf s)) (parameterIn (partsOf s)) m c
@@ -72,10 +59,11 @@ pub record Finished (s : List ℕ) (y : Layout) (m t : Mem) : Type 0 where
   pub both : Sets (flowCode (partsOf s)) (parameterIn (partsOf s)) y t
   pub facts : Entries y t 0 (points (flowCode (partsOf s)) (parameterIn (partsOf s)) (y .words))
 
--- what `solve` does
+-- what `solve` does: an answer that accepts carries the layout that it was given
 pub record Solves (s : List ℕ) (x : Script) (y : Layout) (l : Limits) (b : FlowBudget) (m′ t′ : Mem) (r : Judged) : Type 0 where
-  pub answer : r ≡ afterRounds s x l y (charged l b (fixedPointsCharges (flowCode (partsOf s)) (parameterIn (partsOf s)) (y .words)))
-  pub finished : (z : Layout) (awaits : ℕ) (left : FlowBudget) → r ≡ Accepted z awaits left → Finished s y m′ t′
+  pub answer : outcomeBy (x .id) r
+      ≡ afterRounds s x l y (charged l b (fixedPointsCharges (flowCode (partsOf s)) (parameterIn (partsOf s)) (y .words)))
+  pub finished : (z : Layout) (awaits : ℕ) (left : FlowBudget) → r ≡ Accepted z awaits left → (z ≡ y) × Finished s y m′ t′
 
 -- a stage's refusal; where it goes on this is not asked
 abbrev pub refusedAt : Staged → Judged
@@ -90,6 +78,7 @@ pointed y (pointing.Refused r b) = Refused r b
 -- of the words of both buffers, w and v: they have room, and they hold a script that is accepted
 pub record Accepts (s : List ℕ) (x : Script) (lent : Lent) (w v : List ℕ) (y : Layout) : Type 0 where
   pub fits : Fits s x y
+  pub words : y .words ≡ (x .slots + 63) / 64
   pub awaits : y .awaits ≡ x .awaits
   pub room : Room y (length w)
   pub sets-room : SetsRoom y (length v)
@@ -98,6 +87,6 @@ pub record Accepts (s : List ℕ) (x : Script) (lent : Lent) (w v : List ℕ) (y
 
 -- what `judge` does
 pub record Judges (s : List ℕ) (x : Script) (l : Limits) (records : ℕ) (b : FlowBudget) (w w′ v v′ : List ℕ) (r : Judged) : Type 0 where
-  pub answer : r ≡ judgeOf s x l (record { sets = length v; records = records }) (length w) b
+  pub answer : outcomeBy (x .id) r ≡ judged s x l (record { scratch = length w; sets = length v; records = records }) b
   pub accepts : (y : Layout) (awaits : ℕ) (left : FlowBudget) → r ≡ Accepted y awaits left
       → Accepts s x (record { sets = length v; records = records }) w′ v′ y

@@ -1,10 +1,127 @@
 // `verify` of flow.rs on a sheet that passed the checks, stage by stage.
+use budget::Charged;
 use budget::FlowBudget;
+use budget::Limits;
 use format::refusal::Refusal;
+use instructions::sets;
 use memory::layout::Layout;
+use points::awaits::Points;
+use rooms::Staged;
+use sheet::script::Script;
+ghost use mathlib.Core.Path.{_≡_};
+ghost use Prim.Native.Nat.{_*_, _-_, _^_, _≤_, _<_};
+ghost use lib.ListN.{length};
+ghost use Rattle.budget.specs.Budget.{budgetOf};
+ghost use Rattle.format.specs.declared.refusal.Refusal.the-variants.{WorkLimit};
+ghost use Rattle.memory.specs.Cells.{storeCell};
+ghost use Rattle.memory.specs.Names.{hostsRow};
+ghost use Rattle.memory.specs.Scratch.{scratch, Room};
+ghost use Rattle.memory.specs.Sets.{sets, SetsRoom};
+ghost use Rattle.sheet.specs.Decode.{partsOf};
+ghost use Rattle.instructions.specs.Sets.{hostRow};
+ghost use Rattle.instructions.specs.Sound.{Sound};
+ghost use Rattle.judge.specs.Judge.{refusedAt, pointed, Begun, Hosted, Solves, Judges};
 
 // Accepted with the layout, how many awaits are reached, and the budget; or refused with the budget as charged.
 pub enum Judged {
     Accepted(Layout, usize, FlowBudget),
     Refused(Refusal, FlowBudget),
+}
+
+// The early 10, then the graph, both rounds, and the checks of reads and awaits. `records` is how many block records are lent.
+pub fn judge(
+    sheet: &[u8],
+    s: &mut [u64],
+    t: &mut [u64],
+    script: Script,
+    records: usize,
+    limits: Limits,
+    budget: FlowBudget,
+) -> Judged
+    requires { ⌜ (Sound (now sheet) script) × (limits .work < 2 ^ 64 - 1) ⌝ }
+    ensures { λ r. ⌜ Judges (now (sheet .entry)) script limits records budget (now (s .entry)) (now (s .exit)) (now (t .entry)) (now (t .exit)) r ⌝ }
+{
+    if s.len() < 4 * script.count {
+        return Judged::Refused(Refusal::NoRoom, budget);
+    }
+    let g = graph::graph(sheet, s, t, script, records, limits, budget);
+    let Staged::Ok(y, left) = g else {
+        return staged(g);
+    };
+    solve(sheet, s, t, script, y, limits, left)
+}
+
+// Both rounds, the row of the host slots where an await asks for it, then the checks of reads and awaits.
+fn solve(
+    sheet: &[u8],
+    s: &mut [u64],
+    t: &mut [u64],
+    script: Script,
+    y: Layout,
+    limits: Limits,
+    budget: FlowBudget,
+) -> Judged
+    requires { ⌜ Room y (length (now s)) × SetsRoom y (length (now t)) × (Begun (now sheet) script y (scratch y (now s)) (sets y (now t))) × (limits .work < 2 ^ 64 - 1) ⌝ }
+    ensures { λ r. ⌜ Solves (now (sheet .entry)) script y limits budget (scratch y (now (s .exit))) (sets y (now (t .exit))) r ⌝ }
+{
+    let c = fixed_points::fixed_points(s, t, y, limits, budget);
+    let Charged::Ok(left) = c else {
+        return over(c);
+    };
+    hosts_if(sheet, s, script, y);
+    point(
+        check_points::check_points(sheet, s, t, script, y, limits, left),
+        y,
+    )
+}
+
+// Only an await asks for the row of the host slots.
+fn hosts_if(sheet: &[u8], s: &mut [u64], script: Script, y: Layout)
+    requires { ⌜ Room y (length (now s)) × (Sound (now sheet) script) × (script .slots ≤ 64 * y .words) ⌝ }
+    ensures { λ _. ⌜ Hosted (now (sheet .entry)) script y (scratch y (now (s .entry))) (scratch y (now (s .exit))) ⌝ }
+{
+    if script.awaits == 0 {
+        return;
+    }
+    hosts(sheet, s, script, y);
+}
+
+// The row of the host slots.
+fn hosts(sheet: &[u8], s: &mut [u64], script: Script, y: Layout)
+    requires { ⌜ Room y (length (now s)) × (Sound (now sheet) script) × (script .slots ≤ 64 * y .words) ⌝ }
+    ensures { λ _. ⌜ scratch y (now (s .exit)) ≡ storeCell (scratch y (now (s .entry))) (hostsRow (y .blocks)) (hostRow (partsOf (now (sheet .entry))) (y .words)) ⌝ }
+{
+    let base = y.scratch_start(y.hosts());
+    let w = y.words;
+    sets::insert_hosts(sheet, script, s, base, w);
+}
+
+// A refusal of `graph` as that of the whole.
+fn staged(g: Staged) -> Judged
+    ensures { λ r. ⌜ r ≡ refusedAt g ⌝ }
+{
+    match g {
+        Staged::Ok(_, b) => Judged::Refused(Refusal::NoRoom, b),
+        Staged::Refused(r, b) => Judged::Refused(r, b),
+    }
+}
+
+// 12, with the sum that crossed the limit.
+fn over(c: Charged) -> Judged
+    ensures { λ r. ⌜ r ≡ Judged.Refused WorkLimit (budgetOf c) ⌝ }
+{
+    match c {
+        Charged::Ok(b) => Judged::Refused(Refusal::WorkLimit, b),
+        Charged::Over(b) => Judged::Refused(Refusal::WorkLimit, b),
+    }
+}
+
+// The answer of `check_points` as that of the whole.
+fn point(p: Points, y: Layout) -> Judged
+    ensures { λ r. ⌜ r ≡ pointed y p ⌝ }
+{
+    match p {
+        Points::Passed(n, b) => Judged::Accepted(y, n, b),
+        Points::Refused(r, b) => Judged::Refused(r, b),
+    }
 }

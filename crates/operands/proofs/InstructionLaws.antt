@@ -9,16 +9,16 @@ use lib.Dec.{eqb, leb}
 use lib.ListN.{length, getD, drop, length-append, length-drop}
 use lib.Seq.{getD-drop}
 use Rattle.operands.specs.Choice.{pick}
-use Rattle.operands.specs.Places.{rest, absent, gathered}
+use Rattle.operands.specs.Places.{Place, rest, absent, gathered}
 use Rattle.operands.specs.Patterns.{D, S, Sopt, Dopt, T, roleAt, singleOf, fixedAt, listAt, fits}
 use Rattle.operands.specs.Operands.{listPlace, singles, byPattern, inputsOf, outputOf, targetsOf, firstOf}
-use Rattle.operands.specs.Instructions.{Readable, valuesOf, nth, valueOf, singlesFrom}
+use Rattle.operands.specs.Instructions.{Readable, valuesOf, nth, valueOf, singleValues, singlesFrom}
 use Rattle.operands.specs.declared.instruction.Instruction.{Instruction}
 use Rattle.operands.specs.declared.instruction.Value.the-variants.{Is, Absent}
 use Rattle.operands.proofs.Agree.{inputs-agree, output-agree, targets-agree}
-use Rattle.operands.proofs.PatternLaws.{single-early, fixed-there}
+use Rattle.operands.proofs.PatternLaws.{single-early, fixed-there, outputs-first, inputs-direct}
 use Rattle.operands.proofs.NumberLaws.{number-count}
-use Rattle.operands.proofs.PlaceLaws.{gathered-append, nth-first, nth-second, nth-nil}
+use Rattle.operands.proofs.PlaceLaws.{gathered-append, singles-more, nth-first, nth-second, nth-nil, nth-one}
 
 single-role : (r : ℕ) → 1 ≤ r → r ≤ 6 → singleOf r ≡ 1
 single-role r l h = rw (ne-eqb r 0 (λ e. omega arith), ne-eqb r 7 (λ e. omega arith))
@@ -76,6 +76,13 @@ module _ (k : ℕ) (v : List ℕ) (l : 1 ≤ k) (h : k ≤ 41) (e : fits k (leng
       ∙ nth-second (drop (fixedAt k) v) (gathered (singles S Sopt k) v) i (omega arith)
       ∙ ap (λ (n : ℕ). nth (gathered (singles S Sopt k) v) (i - n)) q
 
+-- an input S, where it stands
+pub input-direct : (k n j : ℕ) (v : List ℕ) → 1 ≤ k → k ≤ 41 → n < 3 → j < 4 → j ≡ pick (eqb (roleAt k 0) S) 0 1 + n → roleAt k j ≡ S
+    → Is (getD v j absent) ≡ nth (gathered (singles S Sopt k) v) n
+input-direct k n j v l h m b e r =
+    let d = inputs-direct k n l h (omega arith) (ap (roleAt k) (sym e) ∙ r) in
+    sym (nth-one (singles S Sopt k) v n j (d ∙ sym e) (omega arith))
+
 -- the output and the targets are single fields
 module _ (k : ℕ) (v : List ℕ) (l : 1 ≤ k) (h : k ≤ 41) where
   pub output-single : valueOf (outputOf k v) ≡ nth (gathered (singles D Dopt k) v) 0
@@ -85,6 +92,16 @@ module _ (k : ℕ) (v : List ℕ) (l : 1 ≤ k) (h : k ≤ 41) where
       go : (x : List ℕ) → valueOf (firstOf x) ≡ nth x 0
       go [] = sym (nth-nil [] 0 refl)
       go (y ∷ x) = sym (nth-first (y ∷ []) x 0 (omega arith))
+
+  -- field 0 alone
+  pub output-field : valueOf (outputOf k v) ≡ nth (singleValues D Dopt (roleAt k 0) (getD v 0 absent)) 0
+  unfolding gathered
+  output-field =
+      let x : List ℕ = singleValues D Dopt (roleAt k 0) (getD v 0 absent) in
+      output-single
+      ∙ ap (λ (m : List ℕ). nth m 0) (singles-more D Dopt k 0 4 v (omega arith))
+      ∙ ap (λ (ps : List Place). nth (x ++ gathered ps v) 0) (outputs-first k l h)
+      ∙ ap (λ (m : List ℕ). nth m 0) (append-nil x)
 
   pub targets-single : targetsOf k v ≡ gathered (singles T T k) v
   unfolding byPattern
@@ -125,6 +142,10 @@ module _ (s : List ℕ) (i : Instruction) (p : Readable s i) where
 
   pub view-output : valueOf (outputOf (i .pattern .kind) (valuesOf s i)) ≡ nth (singlesFrom D Dopt s i 0) 0
   view-output = output-single kind (valuesOf s i) (p .known .low) (p .known .high)
+
+  pub view-output-field : valueOf (outputOf (i .pattern .kind) (valuesOf s i))
+      ≡ nth (singleValues D Dopt (roleAt (i .pattern .kind) 0) (getD (valuesOf s i) 0 absent)) 0
+  view-output-field = output-field kind (valuesOf s i) (p .known .low) (p .known .high)
 
   pub view-targets : targetsOf (i .pattern .kind) (valuesOf s i) ≡ singlesFrom T T s i 0
   view-targets = targets-single kind (valuesOf s i) (p .known .low) (p .known .high)

@@ -2,31 +2,56 @@
 use mathlib.Core.Path.{_≡_, refl, ap, sym, subst, _∙_}
 use mathlib.Core.Bool.{Bool, true, false}
 use mathlib.Core.List.{List, [], _∷_}
-use Prim.Native.Nat.{ℕ, _+_, _-_, _*_, _/_, _%_, _≤_, _<_, min}
+use Prim.Native.Nat.{ℕ, zero, suc, _+_, _-_, _*_, _/_, _%_, _^_, _≤_, _<_, min}
 use native.Mathlib.Omega.{arith}
 use lib.Dec.{T, eqb, ltb, leb, eqb→eq, ltb→lt, leb→le}
 use borrow.Author.Tests.{eq-eqb, le-leb, ltb-true, ltb-false, eqb-true, leb-true}
 use lib.ListN.{length, getD, replicate}
 use Rattle.operands.specs.Choice.{pick}
-use Rattle.operands.specs.Patterns.{groups, patternIn, patternOf, roleIn, roleAt, singleOf, fixedAt, listAt, fits, wordOf}
+use Rattle.operands.specs.Places.{Place}
+use Rattle.operands.specs.Patterns.{D, S, Sopt, Dopt, groups, patternIn, patternOf, roleIn, roleAt, singleOf, fixedAt, listAt, fits, wordOf}
+use Rattle.operands.specs.Operands.{placesFrom}
 use Rattle.operands.proofs.Table.{every, at}
+use Rattle.operands.proofs.PlaceLaws.{oneAt}
 
 -- the numbers of `PATTERNS`
 abbrev pub words : List ℕ
 words =
-    640 ∷ 640 ∷ 664 ∷ 704 ∷ 512 ∷ 896 ∷ 3200 ∷ 640 ∷ 640 ∷ 656 ∷ 728 ∷ 1773 ∷ 2303 ∷ 1023 ∷ 640 ∷ 728 ∷ 656 ∷ 1023 ∷ 1023 ∷ 1023 ∷
-    640 ∷ 640 ∷ 1152 ∷ 640 ∷ 640 ∷ 1023 ∷ 1023 ∷ 640 ∷ 640 ∷ 640 ∷ 1152 ∷ 656 ∷ 1168 ∷ 703 ∷ 1215 ∷ 2199 ∷ 703 ∷ 2560 ∷ 1384 ∷ 1536 ∷
-    0 ∷ []
+    8832 ∷ 8832 ∷ 12952 ∷ 8896 ∷ 4608 ∷ 9088 ∷ 11392 ∷ 8832 ∷ 8832 ∷ 12944 ∷ 13016 ∷ 18157 ∷ 10495 ∷ 5119 ∷ 8832 ∷ 13016 ∷ 12944 ∷
+    5119 ∷ 5119 ∷ 5119 ∷ 8832 ∷ 8832 ∷ 9344 ∷ 8832 ∷ 8832 ∷ 5119 ∷ 5119 ∷ 8832 ∷ 8832 ∷ 8832 ∷ 9344 ∷ 12944 ∷ 13456 ∷ 8895 ∷ 9407 ∷
+    14487 ∷ 8895 ∷ 6656 ∷ 13672 ∷ 5632 ∷ 0 ∷ []
 
 own : ℕ → ℕ → Bool
 own k x = eqb x (wordOf (k + 1))
 
 -- the entry that `Pattern::of` reads
 pub word-at : (k : ℕ) → 1 ≤ k → k ≤ 41 → getD words (k - 1) 0 ≡ wordOf k
-unfolding own wordOf patternOf patternIn groups roleIn roleAt
+unfolding own wordOf patternOf patternIn groups roleIn roleAt fixedAt
 word-at k l h =
     let e : k - 1 + 1 ≡ k = omega arith in
     eqb→eq (getD words (k - 1) 0) (wordOf (k - 1 + 1)) (at own words tt (k - 1) (omega arith)) ∙ ap wordOf e
+
+-- no field after field 0 is an output
+abbrev nothing : List Place → Bool
+nothing [] = true
+nothing (p ∷ ps) = false
+
+unfoldable inner : ℕ → ℕ → Bool
+inner k x = nothing (placesFrom D Dopt (k + 1) 1 3)
+
+all-inner : (k : ℕ) → k < 41 → T (inner k (getD words k 0))
+unfolding inner patternOf patternIn groups roleIn roleAt placesFrom
+all-inner k h = at inner words tt k h
+
+pub outputs-first : (k : ℕ) → 1 ≤ k → k ≤ 41 → placesFrom D Dopt k 1 3 ≡ []
+unfolding inner
+outputs-first k l h =
+    let e : k - 1 + 1 ≡ k = omega arith in
+    ap (λ (m : ℕ). placesFrom D Dopt m 1 3) (sym e) ∙ go (placesFrom D Dopt (k - 1 + 1) 1 3) (all-inner (k - 1) (omega arith))
+  where
+    go : (ps : List Place) → T (nothing ps) → ps ≡ []
+    go [] t = refl
+    go (p ∷ ps) t = absurd t
 
 -- a test at each of the four fields of each of the 41 kinds
 abbrev fields : List ℕ
@@ -52,23 +77,51 @@ role-last : (k j : ℕ) → 3 ≤ j → roleAt k 3 ≡ roleAt k j
 unfolding roleAt
 role-last k j m = ap (λ (x : ℕ). roleIn (patternOf k) x) (omega arith)
 
+-- at most four fields are single
+pub fixed-few : (k : ℕ) → fixedAt k ≤ 4
+unfolding fixedAt
+fixed-few k =
+    let a = one-at-most (roleAt k 0) in
+    let b = one-at-most (roleAt k 1) in
+    let c = one-at-most (roleAt k 2) in
+    let d = one-at-most (roleAt k 3) in
+    omega arith
+  where
+    one-at-most : (r : ℕ) → singleOf r ≤ 1
+    one-at-most r = go (eqb r 0) (eqb r 7)
+      where
+        go : (p q : Bool) → pick p 0 (pick q 0 1) ≤ 1
+        go true q = omega arith
+        go false true = omega arith
+        go false false = omega arith
+
 -- the digits of a pattern's word
 module _ (k : ℕ) (l : 1 ≤ k) (h : k ≤ 41) where
-  pub digit-0 : wordOf k / 512 ≡ roleAt k 0
+  pub count-digit : wordOf k / 4096 ≡ fixedAt k
   unfolding wordOf
-  digit-0 = omega (arith, role-small k 1 l h (omega arith), role-small k 2 l h (omega arith), role-small k 3 l h (omega arith))
+  count-digit = omega (arith, role-small k 0 l h (omega arith), role-small k 1 l h (omega arith), role-small k 2 l h (omega arith), role-small k 3 l h (omega arith))
 
-  pub digit-1 : wordOf k / 64 % 8 ≡ roleAt k 1
+  digit-0 : wordOf k / 512 % 8 ≡ roleAt k 0
+  unfolding wordOf
+  digit-0 = omega (arith, role-small k 0 l h (omega arith), role-small k 1 l h (omega arith), role-small k 2 l h (omega arith), role-small k 3 l h (omega arith))
+
+  digit-1 : wordOf k / 64 % 8 ≡ roleAt k 1
   unfolding wordOf
   digit-1 = omega (arith, role-small k 1 l h (omega arith), role-small k 2 l h (omega arith), role-small k 3 l h (omega arith))
 
-  pub digit-2 : wordOf k / 8 % 8 ≡ roleAt k 2
+  digit-2 : wordOf k / 8 % 8 ≡ roleAt k 2
   unfolding wordOf
   digit-2 = omega (arith, role-small k 2 l h (omega arith), role-small k 3 l h (omega arith))
 
   pub digit-3 : (j : ℕ) → 3 ≤ j → wordOf k % 8 ≡ roleAt k j
   unfolding wordOf
   digit-3 j m = omega (arith, role-small k 3 l h (omega arith), role-last k j m)
+
+  pub digit-at : (j : ℕ) → j < 3 → wordOf k / 2 ^ (9 - 3 * j) % 8 ≡ roleAt k j
+  digit-at zero m = digit-0
+  digit-at (suc zero) m = digit-1
+  digit-at (suc (suc zero)) m = digit-2
+  digit-at (suc (suc (suc j))) m = absurd (omega arith)
 
 -- a single field stands before the first of L
 unfoldable early : ℕ → ℕ → Bool
@@ -81,6 +134,21 @@ all-early = at-field early tt
 pub single-early : (k j : ℕ) → 1 ≤ k → k ≤ 41 → j < 4 → singleOf (roleAt k j) ≡ 1 → j < fixedAt k
 unfolding early
 single-early k j l h m e = ltb→lt j (fixedAt k) (rw (eq-eqb _ _ e) at (all-early k j l h m))
+
+-- inputs S stand together from field 0 or 1 on, before any S?
+unfoldable direct : ℕ → ℕ → Bool
+direct k n =
+    let f : ℕ = pick (eqb (roleAt k 0) S) 0 1 in
+    pick (eqb (roleAt k (f + n)) S) (eqb (oneAt (placesFrom S Sopt k 0 4) n) (f + n)) true
+
+all-direct : (k n : ℕ) → 1 ≤ k → k ≤ 41 → n < 4 → T (direct k n)
+unfolding direct patternOf patternIn groups roleIn roleAt placesFrom oneAt
+all-direct = at-field direct tt
+
+pub inputs-direct : (k n : ℕ) → 1 ≤ k → k ≤ 41 → n < 4 → roleAt k (pick (eqb (roleAt k 0) S) 0 1 + n) ≡ S
+    → oneAt (placesFrom S Sopt k 0 4) n ≡ pick (eqb (roleAt k 0) S) 0 1 + n
+unfolding direct
+inputs-direct k n l h m e = eqb→eq _ _ (rw (eq-eqb _ _ e) at (all-direct k n l h m))
 
 -- after the single fields each field of a kind with L is L
 unfoldable late : ℕ → ℕ → Bool

@@ -124,3 +124,19 @@ nth-later a b k j v i h l =
 pub nth-nil : (l : List ℕ) (i : ℕ) → l ≡ [] → nth l i ≡ Absent
 unfolding nth
 nth-nil l i e = rw e
+
+-- the n-th place if it and those before it are there in any case, else 9
+unfoldable pub oneAt : List Place → ℕ → ℕ
+oneAt [] n = 9
+oneAt (one j ∷ ps) zero = j
+oneAt (one j ∷ ps) (suc n) = oneAt ps n
+oneAt (optional j ∷ ps) n = 9
+oneAt (rest j ∷ ps) n = 9
+
+pub nth-one : (ps : List Place) (v : List ℕ) (n j : ℕ) → oneAt ps n ≡ j → j < 9 → nth (gathered ps v) n ≡ Is (getD v j absent)
+unfolding oneAt gathered nth
+nth-one [] v n j e h = absurd (omega arith)
+nth-one (one i ∷ ps) v zero j e h = rw e
+nth-one (one i ∷ ps) v (suc n) j e h = nth-one ps v n j e h
+nth-one (optional i ∷ ps) v n j e h = absurd (omega arith)
+nth-one (rest i ∷ ps) v n j e h = absurd (omega arith)

@@ -105,6 +105,7 @@ listAt k = eqb (roleAt k 3) L
 unfoldable pub fits : ℕ → ℕ → Bool
 fits k fields = pick (listAt k) (leb (fixedAt k) fields) (eqb fields (fixedAt k))
 
--- the pattern of kind k as four octal digits, field 0 first: how the table of the code holds it
+-- the pattern of kind k as five octal digits, how many single fields there are and then the roles, field 0 first: how the table of the code
+-- holds it
 unfoldable pub wordOf : ℕ → ℕ
-wordOf k = 512 * roleAt k 0 + 64 * roleAt k 1 + 8 * roleAt k 2 + roleAt k 3
+wordOf k = 4096 * fixedAt k + 512 * roleAt k 0 + 64 * roleAt k 1 + 8 * roleAt k 2 + roleAt k 3

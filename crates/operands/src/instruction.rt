@@ -6,12 +6,14 @@ use crate::slots::Slot;
 ghost use mathlib.Core.Path.{_≡_};
 ghost use mathlib.Core.List.{[]};
 ghost use Prim.Native.Nat.{_+_, _*_, _≤_, _<_};
+ghost use lib.Dec.{eqb};
 ghost use lib.ListN.{length, getD};
+ghost use Rattle.operands.specs.Choice.{pick};
 ghost use Rattle.operands.specs.Places.{absent, present};
-ghost use Rattle.operands.specs.Patterns.{roleAt};
+ghost use Rattle.operands.specs.Patterns.{S, roleAt};
 ghost use Rattle.operands.specs.Operands.{inputsOf, outputOf, targetsOf};
 ghost use Rattle.operands.specs.Bytes.{u32At};
-ghost use Rattle.operands.specs.Instructions.{Readable, valuesOf, nth, valueOf, slotIn, targetIn, singleValues, singlesFrom, countOf};
+ghost use Rattle.operands.specs.Instructions.{Known, Readable, valuesOf, nth, valueOf, slotIn, targetIn, singleValues, singlesFrom, countOf};
 
 // What a ? field holds where the operand is absent or a constant.
 pub const ABSENT: u32 = 4294967295;
@@ -131,6 +133,32 @@ fn single_at(s: &[u8], i: Instruction, a: u16, b: u16, k: usize) -> Value
     Value::Absent
 }
 
+// Where single inputs begin, if they are S: in every pattern they stand together, from field 0 or 1 on.
+fn first_input(p: Pattern) -> usize
+    requires { ⌜ Known p ⌝ }
+    ensures { λ r. ⌜ (r ≡ pick (eqb (roleAt (p .kind) 0) S) 0 1) × (r ≤ 1) ⌝ }
+{
+    if p.role(0) == pattern::S {
+        return 0;
+    }
+    1
+}
+
+// The field of the k-th single input if it is S, else 4.
+fn input_field(p: Pattern, k: usize) -> usize
+    requires { ⌜ Known p ⌝ }
+    ensures { λ r. ⌜ (r ≤ 4) × ((r < 4) → (k < 3) × (r ≡ pick (eqb (roleAt (p .kind) 0) S) 0 1 + k) × (roleAt (p .kind) r ≡ S)) ⌝ }
+{
+    if 3 <= k {
+        return 4;
+    }
+    let j = first_input(p) + k;
+    if p.role(j) == pattern::S {
+        return j;
+    }
+    4
+}
+
 fn as_slot(v: Value) -> SlotOperand
     ensures { λ r. ⌜ slotIn r ≡ v ⌝ }
 {
@@ -169,15 +197,19 @@ pub fn slot_input(s: &[u8], i: Instruction, k: usize) -> SlotOperand
     if k < listed {
         return SlotOperand::Is(Slot::new(field(s, i, fixed + k)));
     }
+    let j = input_field(p, k - listed);
+    if j < 4 {
+        return SlotOperand::Is(Slot::new(field(s, i, j)));
+    }
     as_slot(single_at(s, i, pattern::S, pattern::SOPT, k - listed))
 }
 
-// The slot that it writes: `slot_output`.
+// The slot that it writes: `slot_output`. In every pattern D and D? are field 0 alone.
 pub fn slot_output(s: &[u8], i: Instruction) -> SlotOperand
     requires { ⌜ Readable (now s) i ⌝ }
     ensures { λ r. ⌜ slotIn r ≡ valueOf (outputOf (i .pattern .kind) (valuesOf (now (s .entry)) i)) ⌝ }
 {
-    as_slot(single_at(s, i, pattern::D, pattern::DOPT, 0))
+    as_slot(single_field(s, i, pattern::D, pattern::DOPT, 0))
 }
 
 // How many targets it names.

@@ -1,2 +1,4 @@
 -- Laws of outcomes.
+pub mod ScriptedLaws
+pub mod JoinedLaws
 pub mod Cases

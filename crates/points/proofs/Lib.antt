@@ -3,3 +3,6 @@ pub mod SlotLaws
 pub mod AwaitLaws
 pub mod MeansLaws
 pub mod ReadLaws
+pub mod InstructionLaws
+pub mod BackwardLaws
+pub mod ChargeLaws

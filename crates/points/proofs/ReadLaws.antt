@@ -17,7 +17,7 @@ use Rattle.budget.specs.declared.Charged.the-variants as charge
 use Rattle.budget.specs.Budget.{charged, budgetOf}
 use Rattle.format.specs.declared.refusal.Refusal.the-variants.{UnfilledSlot}
 use Rattle.memory.specs.Cells.{Mem, cell, word, storeCell}
-use Rattle.memory.specs.Names.{costCell, offsetCell, stateRow}
+use Rattle.memory.specs.Names.{costCell, offsetCell, stateRow, hostsRow}
 use Rattle.memory.specs.declared.layout.Layout.{Layout}
 use Rattle.memory.proofs.CellLaws.{cell-store-same, cell-store-other}
 use Rattle.operands.specs.Kinds.{isAwait}
@@ -29,7 +29,7 @@ use Rattle.instructions.specs.declared.placed.Placed.{Placed}
 use Rattle.instructions.specs.Placed.{Stands, placedAt}
 use Rattle.instructions.specs.Sets.{AllBelow, insertedAll}
 use Rattle.instructions.specs.Sound.{codeOffset}
-use Rattle.script.specs.Script.{listOf, flowCode}
+use Rattle.script.specs.Script.{listOf, flowCode, hostIn}
 use Rattle.script.proofs.ScriptLaws.{code-at}
 use Rattle.leaders.proofs.LeaderLaws.{readable-at}
 use Rattle.leaders.proofs.MarkLaws.{below-at}
@@ -107,19 +107,30 @@ pub record Noted (s : List ℕ) (y : Layout) (i : ℕ) (p : Placed) : Type 0 whe
   pub inputs-below : AllBelow (64 * y .words) (inputsOf (p .instruction .pattern .kind) (valuesOf s (p .instruction)))
   pub output-below : AllBelow (64 * y .words) (listOf (outputOf (p .instruction .pattern .kind) (valuesOf s (p .instruction))))
 
-module _ (s : List ℕ) (x : Script) (y : Layout) (m m′ : Mem) (ok : Coded s x y m)
-    (others : (k : ℕ) → (k ≡ stateRow (y .blocks) → ⊥) → cell m′ k ≡ cell m k) (i : ℕ) (h : i < y .instructions) where
+-- the words still hold it where only a row before that of the host slots changed
+pub coded-kept : (s : List ℕ) (x : Script) (y : Layout) (m m′ : Mem) (row : ℕ) → 18 ≤ row → row < hostsRow (y .blocks) → Coded s x y m
+    → ((k : ℕ) → (k ≡ row → ⊥) → cell m′ k ≡ cell m k) → Coded s x y m′
+coded-kept s x y m m′ row low high ok others = record {
+  sound = ok .sound;
+  instructions = ok .instructions;
+  slots = ok .slots;
+  offsets = λ i l. ap (λ (ws : List ℕ). getD ws i 0) (others offsetCell (λ q. omega arith)) ∙ ok .offsets i l;
+  costs = λ i l. ap (λ (ws : List ℕ). getD ws i 0) (others costCell (λ q. omega arith)) ∙ ok .costs i l;
+  hosts = λ h. subst (λ (ws : List ℕ). Means (y .words) ws (hostIn (partsOf s))) (sym (others (hostsRow (y .blocks)) (λ q. omega arith))) (ok .hosts h);
+}
+
+module _ (s : List ℕ) (x : Script) (y : Layout) (m : Mem) (ok : Coded s x y m) (i : ℕ) (h : i < y .instructions) where
   there : i < x .count
   there = omega (arith, ok .instructions)
 
   -- the cost that is noted is the instruction's
-  pub noted-cost : (cost : ℕ) → cost ≡ word m′ costCell i → cost ≡ costAt (flowCode (partsOf s)) i
-  noted-cost cost e = e ∙ ap (λ (ws : List ℕ). getD ws i 0) (others costCell (λ q. omega arith)) ∙ ok .costs i there
+  pub noted-cost : (cost : ℕ) → cost ≡ word m costCell i → cost ≡ costAt (flowCode (partsOf s)) i
+  noted-cost cost e = e ∙ ok .costs i there
 
   -- and so is the offset
-  module _ (at : ℕ) (e : at ≡ word m′ offsetCell i) where
+  module _ (at : ℕ) (e : at ≡ word m offsetCell i) where
     offset-is : at ≡ codeOffset s x i
-    offset-is = e ∙ ap (λ (ws : List ℕ). getD ws i 0) (others offsetCell (λ q. omega arith)) ∙ ok .offsets i there
+    offset-is = e ∙ ok .offsets i there
 
     pub noted-stands : Stands s at
     noted-stands = stands-at s x (ok .sound) i at offset-is there

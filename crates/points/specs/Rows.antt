@@ -6,7 +6,8 @@ use Prim.Native.Nat.{ℕ, _+_, _*_, _-_, _≤_, _<_}
 use lib.ListN.{length, getD}
 use Rattle.bitset.specs.Sets.{common}
 use Rattle.dataflow.specs.Lists.{pick, range, keep}
-use Rattle.dataflow.specs.Code.{Instruction}
+use Rattle.dataflow.specs.Analyses.{liveTransfer}
+use Rattle.dataflow.specs.Code.{Instruction, program}
 use Rattle.dataflow.specs.Verdict.{awaitAt}
 use Rattle.budget.specs.declared.FlowBudget.{FlowBudget}
 use Rattle.budget.specs.declared.Limits.{Limits}
@@ -24,16 +25,16 @@ use Rattle.points.specs.declared.reads.Reads.the-variants.{Filled, Unfil
 use Rattle.points.specs.declared.awaits.Points.{Points}
 use Rattle.points.specs.declared.awaits.Points.the-variants.{Passed, Refused}
 use Rattle.answer.specs.Words.{Means}
-use Rattle.verdict.specs.Points.{Checking, stop, on, ifPaid, ifKept, Point, costAt, readsRun, awaitsRun, awaitPoints}
+use Rattle.verdict.specs.Points.{Checking, stop, on, andThen, ifPaid, ifKept, Point, costAt, readsRun, pointRun, awaitsRun, awaitPoints}
 
--- the instructions of a sheet that passed can be read, with their costs and the row of host slots
+-- the instructions of a sheet that passed can be read, with their costs and, if there may be an await, the row of host slots
 pub record Coded (s : List ℕ) (x : Script) (y : Layout) (m : Mem) : Type 0 where
   pub sound : Sound s x
   pub instructions : y .instructions ≡ x .count
   pub slots : x .slots ≤ 64 * y .words
   pub offsets : (i : ℕ) → i < x .count → word m offsetCell i ≡ codeOffset s x i
   pub costs : (i : ℕ) → i < x .count → word m costCell i ≡ costAt (flowCode (partsOf s)) i
-  pub hosts : Means (y .words) (cell m (hostsRow (y .blocks))) (hostIn (partsOf s))
+  pub hosts : 0 < y .awaits → Means (y .words) (cell m (hostsRow (y .blocks))) (hostIn (partsOf s))
 
 -- how many awaits are among the instructions from start to end
 abbrev pub awaitsAmong : List Instruction → ℕ → ℕ → ℕ
@@ -67,6 +68,18 @@ pub record AwaitChecked (await : Bool) (y : Layout) (l : Limits) (slots : ℕ) (
   pub entry : (n : ℕ) (left : FlowBudget) → r ≡ Passed n left
       → t′ ≡ pick await (storeCell t (2 * y .blocks + n) (pc ∷ cell m (liveStateRow (y .blocks)))) t
 
+-- what `check_instruction` does at pc: its cost is charged, the live row becomes the one before it, and an await there is checked
+pub record InstructionChecked (s : List ℕ) (x : Script) (y : Layout) (l : Limits) (b : FlowBudget) (pc place : ℕ) (m m′ t t′ : Mem) (r : Points) : Type 0 where
+  pub answer : (g : ℕ → Bool) → Means (y .words) (cell m (liveStateRow (y .blocks))) g
+      → pointsOf r ≡ pointRun (flowCode (partsOf s)) (parameterIn (partsOf s)) l (y .words) (x .slots) (hostIn (partsOf s)) pc
+      (λ i. liveTransfer (program (flowCode (partsOf s)) (parameterIn (partsOf s))) pc i (g i)) b
+  pub row : (n : ℕ) (left : FlowBudget) → r ≡ Passed n left → (g : ℕ → Bool) → Means (y .words) (cell m (liveStateRow (y .blocks))) g
+      → Means (y .words) (cell m′ (liveStateRow (y .blocks))) (λ i. liveTransfer (program (flowCode (partsOf s)) (parameterIn (partsOf s))) pc i (g i))
+  pub places : (n : ℕ) (left : FlowBudget) → r ≡ Passed n left → n + pick (awaitAt (flowCode (partsOf s)) pc) 1 0 ≡ place
+  pub entry : (n : ℕ) (left : FlowBudget) → r ≡ Passed n left
+      → t′ ≡ pick (awaitAt (flowCode (partsOf s)) pc) (storeCell t (2 * y .blocks + n) (pc ∷ cell m′ (liveStateRow (y .blocks)))) t
+  pub others : (k : ℕ) → (k ≡ liveStateRow (y .blocks) → ⊥) → cell m′ k ≡ cell m k
+
 -- an entry of the sets buffer holds an await's facts: its instruction, then its set
 abbrev pub Entry : ℕ → List ℕ → Point → Type 0
 Entry w ws p = (row : List ℕ) × (ws ≡ p .instruction ∷ row) × Means w row (p .live)
@@ -85,3 +98,13 @@ pub record AwaitsChecked (s : List ℕ) (x : Script) (y : Layout) (l : Limits) (
       → Entries y t′ n (awaitPoints (flowCode (partsOf s)) (parameterIn (partsOf s)) g (range start (end - start)))
   pub others : (k : ℕ) → (k ≡ liveStateRow (y .blocks) → ⊥) → cell m′ k ≡ cell m k
   pub other-sets : (n : ℕ) (left : FlowBudget) → r ≡ Passed n left → (k : ℕ) → k < 2 * y .blocks + n → cell t′ k ≡ cell t k
+
+-- the costs of a list charged one by one, from the back
+unfoldable pub backRun : (ℕ → ℕ) → Limits → List ℕ → FlowBudget → Checking
+backRun cost l [] b = on b
+backRun cost l (i ∷ is) b = andThen (backRun cost l is b) (λ b′. ifPaid (charged l b′ (cost i ∷ [])) on)
+
+-- what `charge_back` does with the instructions from start to end: their costs are charged, and the place is the same
+pub record ChargedBack (l : Limits) (b : FlowBudget) (start end place : ℕ) (m : Mem) (r : Points) : Type 0 where
+  pub answer : pointsOf r ≡ backRun (word m costCell) l (range start (end - start)) b
+  pub places : (n : ℕ) (left : FlowBudget) → r ≡ Passed n left → n ≡ place

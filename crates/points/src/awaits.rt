@@ -1,8 +1,11 @@
-// An await of a block.
+// The awaits of a block.
+use crate::slots;
 use budget::Charged;
 use budget::FlowBudget;
 use budget::Limits;
 use format::refusal::Refusal;
+use instructions::placed;
+use memory::layout;
 use memory::layout::Layout;
 use operands::kinds;
 use sheet::script::Script;
@@ -15,12 +18,113 @@ ghost use Rattle.budget.specs.Budget.{budgetOf};
 ghost use Rattle.format.specs.declared.refusal.Refusal.the-variants.{WorkLimit, FactsLimit};
 ghost use Rattle.memory.specs.Scratch.{scratch, Room};
 ghost use Rattle.memory.specs.Sets.{sets, SetsRoom};
-ghost use Rattle.points.specs.Rows.{AwaitChecked};
+ghost use Rattle.dataflow.specs.Verdict.{awaitAt};
+ghost use Rattle.sheet.specs.Decode.{partsOf};
+ghost use Rattle.script.specs.Script.{flowCode};
+ghost use Rattle.points.specs.Rows.{Coded, awaitsAmong, AwaitChecked, InstructionChecked, AwaitsChecked, ChargedBack};
 
 // It passed, with the entry that the next await before it is put before; or why it is refused.
 pub enum Points {
     Passed(usize, FlowBudget),
     Refused(Refusal, FlowBudget),
+}
+
+// The awaits among the instructions from start to end, from the back; their facts are put before entry `place`.
+pub fn check_awaits(
+    sheet: &[u8],
+    s: &mut [u64],
+    t: &mut [u64],
+    script: Script,
+    y: Layout,
+    start: usize,
+    end: usize,
+    place: usize,
+    limits: Limits,
+    budget: FlowBudget,
+) -> Points
+    requires { ⌜ Room y (length (now s)) × SetsRoom y (length (now t)) × (Coded (now sheet) script y (scratch y (now s))) × (start ≤ end) × (end ≤ y .instructions)
+        × (awaitsAmong (flowCode (partsOf (now sheet))) start end ≤ place) × (place ≤ y .awaits) ⌝ }
+    ensures { λ r. ⌜ AwaitsChecked (now (sheet .entry)) script y limits budget start end place (scratch y (now (s .entry))) (scratch y (now (s .exit))) (sets y (now (t .entry))) (sets y (now (t .exit))) r ⌝ }
+{
+    let mut left = budget;
+    let mut next = place;
+    let mut pc = end;
+    while start < pc {
+        pc -= 1;
+        let r = check_instruction(sheet, s, t, script, y, pc, next, limits, left);
+        let Points::Passed(n, paid) = r else {
+            return r;
+        };
+        next = n;
+        left = paid;
+    }
+    Points::Passed(next, left)
+}
+
+// The costs from start to end, from the back: all that is charged where there is no await.
+pub fn charge_back(
+    s: &[u64],
+    y: Layout,
+    start: usize,
+    end: usize,
+    place: usize,
+    limits: Limits,
+    budget: FlowBudget,
+) -> Points
+    requires { ⌜ Room y (length (now s)) × (start ≤ end) × (end ≤ y .instructions) ⌝ }
+    ensures { λ r. ⌜ ChargedBack limits budget start end place (scratch y (now (s .entry))) r ⌝ }
+{
+    let mut left = budget;
+    let mut pc = end;
+    while start < pc {
+        pc -= 1;
+        let cost = memory::scratch::get(s, y, layout::COST, pc);
+        let c = left.charge(cost, limits);
+        let Charged::Ok(b) = c else {
+            return over(c);
+        };
+        left = b;
+    }
+    Points::Passed(place, left)
+}
+
+// One instruction: its cost is charged, the live row becomes the one before it, and an await is checked there.
+fn check_instruction(
+    sheet: &[u8],
+    s: &mut [u64],
+    t: &mut [u64],
+    script: Script,
+    y: Layout,
+    pc: usize,
+    place: usize,
+    limits: Limits,
+    budget: FlowBudget,
+) -> Points
+    requires { ⌜ Room y (length (now s)) × SetsRoom y (length (now t)) × (Coded (now sheet) script y (scratch y (now s))) × (pc < y .instructions)
+        × (awaitAt (flowCode (partsOf (now sheet))) pc ≡ true → 0 < place) × (place ≤ y .awaits) ⌝ }
+    ensures { λ r. ⌜ InstructionChecked (now (sheet .entry)) script y limits budget pc place (scratch y (now (s .entry))) (scratch y (now (s .exit))) (sets y (now (t .entry))) (sets y (now (t .exit))) r ⌝ }
+{
+    let live = y.live_state();
+    let cost = memory::scratch::get(s, y, layout::COST, pc);
+    let c = budget.charge(cost, limits);
+    let Charged::Ok(b) = c else {
+        return over(c);
+    };
+    let at = memory::scratch::get(s, y, layout::OFFSET, pc) as usize;
+    let p = placed::instruction_at(sheet, at);
+    slots::remove_output(sheet, s, y, live, p.instruction);
+    slots::insert_inputs(sheet, s, y, live, p.instruction, cost as usize - 1);
+    check_point(
+        s,
+        t,
+        script,
+        y,
+        p.instruction.pattern.kind,
+        pc,
+        place,
+        limits,
+        b,
+    )
 }
 
 // An instruction that is no await passes.

@@ -4,14 +4,14 @@ use mathlib.Core.List.{List}
 use mathlib.Core.Option.{Option, none, some}
 use Prim.Native.Nat.{ℕ, _+_, _/_, _%_}
 use lib.Dec.{eqb, leb, ltb}
-use lib.ListN.{getD}
+use lib.ListN.{length, getD}
 use Rattle.operands.specs.Patterns.{fits}
 use Rattle.format.specs.declared.refusal.Refusal.{Refusal}
 use Rattle.format.specs.declared.refusal.Refusal.the-variants.{ShortSheet, WrongKind, BadBody, NoSuchSlot, NoSuchTarget}
 use Rattle.records.specs.declared.record.Step.{Step}
 use Rattle.records.specs.declared.record.Step.the-variants.{Next, Stop}
 use Rattle.format.specs.Refusals.{due}
-use Rattle.format.specs.Heads.{short, kindAt, endAt, bodyLength, fieldsAt}
+use Rattle.format.specs.Heads.{u16At, short, kindAt, endAt, bodyLength, fieldsAt}
 use Rattle.format.specs.Types.{wholeType, endsWith}
 use Rattle.format.specs.Fields.{badModule, noSlot, noTarget, anyField, anyAbove}
 
@@ -43,6 +43,13 @@ slotFault s at =
     (due (not (eqb (kindAt s at) 258)) WrongKind
     (due (badSlot s (at + 4) (endAt s at)) BadBody
     none))
+
+-- a slot record of six bytes: length 4, kind 258, a physical byte that fits, and a whole type of one byte
+unfoldable pub plainSlot : List ℕ → ℕ → Bool
+plainSlot s at =
+    leb (at + 6) (length s)
+    && ((eqb (u16At s at) 4 && eqb (kindAt s at) 258)
+    && (leb (getD s (at + 4) 0) 12 && leb (getD s (at + 5) 0) 3))
 
 -- a kind of instruction
 abbrev pub isInstruction : ℕ → Bool

@@ -1,4 +1,5 @@
 // The checks of one record, the least number of the refusal table first.
+use format::bytes;
 use format::fields;
 use format::fields::Faults;
 use format::head;
@@ -11,7 +12,7 @@ ghost use mathlib.Core.Path.{_≡_};
 ghost use Prim.Native.Nat.{_≤_};
 ghost use lib.ListN.{length};
 ghost use Rattle.format.specs.Heads.{kindAt, endAt};
-ghost use Rattle.records.specs.Records.{stepOf, refusalIn, badSlot, fieldsFault, functionFault, parametersFault, slotFault, instructionFault};
+ghost use Rattle.records.specs.Records.{stepOf, refusalIn, badSlot, plainSlot, fieldsFault, functionFault, parametersFault, slotFault, instructionFault};
 
 pub const FUNCTION: usize = 256;
 
@@ -90,8 +91,8 @@ fn bad_slot(s: &[u8], body: usize, end: usize) -> bool
     next != end
 }
 
-// The slot record at an offset.
-pub fn slot_record(s: &[u8], at: usize) -> Step
+// The slot record at an offset, of whatever type.
+fn any_slot(s: &[u8], at: usize) -> Step
     ensures { λ r. ⌜ r ≡ stepOf (slotFault (now (s .entry)) at) (endAt (now (s .entry)) at) (kindAt (now (s .entry)) at) ⌝ }
 {
     let Head::Record(kind, body, end) = head::head_at(s, at) else {
@@ -104,6 +105,30 @@ pub fn slot_record(s: &[u8], at: usize) -> Step
         return Step::Stop(Refusal::BadBody);
     }
     Step::Next(end, kind)
+}
+
+// Whether a slot record with a type of one byte stands at an offset: most are so. Its head is one number: length 4, kind 258.
+fn plain_slot(s: &[u8], at: usize) -> bool
+    ensures { λ r. ⌜ r ≡ plainSlot (now (s .entry)) at ⌝ }
+{
+    if s.len() < 6 {
+        return false;
+    }
+    if s.len() - 6 < at {
+        return false;
+    }
+    (bytes::u16_at(s, at) + 65536 * bytes::u16_at(s, at + 2) == 16908292)
+        & ((s[at + 4] <= 12) & (s[at + 5] <= types::REFERENCE))
+}
+
+// The slot record at an offset. A plain one is told at a glance, and ends six bytes on.
+pub fn slot_record(s: &[u8], at: usize) -> Step
+    ensures { λ r. ⌜ r ≡ stepOf (slotFault (now (s .entry)) at) (endAt (now (s .entry)) at) (kindAt (now (s .entry)) at) ⌝ }
+{
+    if plain_slot(s, at) {
+        return Step::Next(at + 6, SLOT);
+    }
+    any_slot(s, at)
 }
 
 // What is wrong with the fields as an answer: 3, then 7, then 8.

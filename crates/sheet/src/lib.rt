@@ -5,7 +5,6 @@ pub mod walk;
 use format::refusal::Refusal;
 use operands::instruction;
 use operands::kinds;
-use records::record;
 use records::record::Step;
 use script::Checked;
 use script::Script;
@@ -79,7 +78,7 @@ fn check_slots(s: &[u8], script: Script) -> Checked
 fn check_parameters(s: &[u8], id: u32, slots: usize, count: usize, at: usize) -> Checked
     ensures { λ r. ⌜ r ≡ atParameters (now (s .entry)) id slots count at ⌝ }
 {
-    let step = record::parameter_record(s, slots, at);
+    let step = reader::parameters_at(s, slots, at);
     let Step::Next(next, _) = step else {
         return Checked::Refused(step.refusal(), id);
     };
@@ -118,7 +117,7 @@ fn check_sizes(s: &[u8], id: u32, slots: usize, count: usize, at: usize) -> Chec
 pub fn check(s: &[u8]) -> Checked
     ensures { λ r. ⌜ Checks (now (s .entry)) r ⌝ }
 {
-    let step = record::function_record(s, 0);
+    let step = reader::function_at(s, 0);
     let Step::Next(next, _) = step else {
         return Checked::Refused(step.refusal(), 0);
     };

@@ -32,7 +32,7 @@ pub fn walk_slots(s: &[u8], slots: usize, first: usize) -> Step
     let mut at = first;
     let mut i = 0;
     while i < slots {
-        let step = record::slot_record(s, at);
+        let step = reader::slot_at(s, at);
         let Step::Next(next, _) = step else {
             return step;
         };
@@ -57,7 +57,7 @@ pub fn walk_code(s: &[u8], slots: usize, count: usize, first: usize) -> Code
     let mut awaits = 0;
     let mut i = 0;
     while i < count {
-        let step = record::instruction_record(s, slots, count, at);
+        let step = reader::instruction_at(s, slots, count, at);
         let Step::Next(next, kind) = step else {
             return Code::Stop(step.refusal());
         };

@@ -12,8 +12,8 @@ use Rattle.sheet.proofs.WalkLaws.{went, halted}
 use Rattle.sheet.proofs.check_parameters.Statement.{statement}
 use Rattle.sheet.proofs.check_parameters.Tie as tie
 
-parameter-record-requires : tie.Need-parameter-record-requires
-parameter-record-requires c κs = search needs
+parameters-at-requires : tie.Need-parameters-at-requires
+parameters-at-requires c κs = search needs
 
 enum-known-step : tie.Need-enum-known-step
 enum-known-step c = search needs
@@ -31,7 +31,7 @@ returns c =
     let s = now (a .s) in
     let t = c .before .enum-told .given in
     let h = halted (parametersFault s (a .slots) (a .at)) (endAt s (a .at)) (kindAt s (a .at)) (t .0 .0)
-    (sym (t .1) ∙ c .before .before .before .parameter-record .ensures) in
+    (sym (t .1) ∙ c .before .before .before .parameters-at .ensures) in
     rw (c .refusal .ensures, t .1, h)
 
 add-t9 : tie.Need-add-t9
@@ -40,7 +40,7 @@ add-t9 c =
     let s = now (a .s) in
     let g = c .before .step .given in
     let w = went (parametersFault s (a .slots) (a .at)) (endAt s (a .at)) (kindAt s (a .at)) (g .0 .0) (g .0 .1 .0)
-    (sym (g .1) ∙ c .before .before .before .parameter-record .ensures) in
+    (sym (g .1) ∙ c .before .before .before .parameters-at .ensures) in
     let l = lies s (a .at) (parameters-passed s (a .slots) (a .at) (w .no-fault) .whole) in
     omega (arith, l .ordered, l .within)
 
@@ -50,7 +50,7 @@ add-t10 c =
     let s = now (a .s) in
     let g = c .before .step .given in
     let w = went (parametersFault s (a .slots) (a .at)) (endAt s (a .at)) (kindAt s (a .at)) (g .0 .0) (g .0 .1 .0)
-    (sym (g .1) ∙ c .before .before .before .parameter-record .ensures) in
+    (sym (g .1) ∙ c .before .before .before .parameters-at .ensures) in
     let l = lies s (a .at) (parameters-passed s (a .slots) (a .at) (w .no-fault) .whole) in
     omega (arith, l .ordered, l .within)
 
@@ -60,7 +60,7 @@ sub-t11 c =
     let s = now (a .s) in
     let g = c .before .step .given in
     let w = went (parametersFault s (a .slots) (a .at)) (endAt s (a .at)) (kindAt s (a .at)) (g .0 .0) (g .0 .1 .0)
-    (sym (g .1) ∙ c .before .before .before .parameter-record .ensures) in
+    (sym (g .1) ∙ c .before .before .before .parameters-at .ensures) in
     let l = lies s (a .at) (parameters-passed s (a .slots) (a .at) (w .no-fault) .whole) in
     omega (arith, l .ordered, w .is-end)
 
@@ -74,14 +74,14 @@ returns-2 c =
     let s = now (a .s) in
     let g = c .before .before .step .given in
     let w = went (parametersFault s (a .slots) (a .at)) (endAt s (a .at)) (kindAt s (a .at)) (g .0 .0) (g .0 .1 .0)
-    (sym (g .1) ∙ c .before .before .before .before .parameter-record .ensures) in
+    (sym (g .1) ∙ c .before .before .before .before .parameters-at .ensures) in
     rw (w .no-fault, ← w .is-end) (c .check-slots .ensures)
 
 pub check-parameters-spec : {M : Type 1} → statement M
 check-parameters-spec =
     tie.close
     (tie.spec
-    parameter-record-requires
+    parameters-at-requires
     enum-known-step
     enum-told
     refusal-requires

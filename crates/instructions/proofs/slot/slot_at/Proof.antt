@@ -1,88 +1,73 @@
 -- `instructions::slot::slot_at` meets its contract. Assumes nothing.
-use Prim.Native.Nat.{_+_}
+use mathlib.Core.Path.{sym, _∙_}
 use native.Mathlib.Omega.{arith}
 use denote.Ref.{now}
 use borrow.Author.Needs.{needs}
-use Rattle.format.specs.Heads.{endAt}
-use Rattle.format.specs.Types.{wholeType}
 use Rattle.format.proofs.HeadLaws.{lies}
-use Rattle.instructions.proofs.PlacedLaws.{slot-made, host-is, host-none}
+use Rattle.instructions.proofs.PlacedLaws.{plain-made}
 use Rattle.instructions.proofs.slot.slot_at.Statement.{statement}
 use Rattle.instructions.proofs.slot.slot_at.Tie as tie
-
-add-end : tie.Need-add-end
-add-end c =
-    let w = lies (now (c .before .args .s)) (c .before .args .at) (c .before .pre .whole) in omega (arith, w .ordered, w .within)
 
 u16-at-requires : tie.Need-u16-at-requires
 u16-at-requires c κs =
     let w = lies (now (c .before .args .s)) (c .before .args .at) (c .before .pre .whole) in omega (arith, w .ordered, w .within)
 
-add-end-2 : tie.Need-add-end-2
-add-end-2 c =
-    let a = c .before .before .args in
-    let p = c .before .before .pre in
-    let w = lies (now (a .s)) (a .at) (p .whole) in omega (arith, w .ordered, w .within)
-
-add-physical : tie.Need-add-physical
-add-physical c =
-    let a = c .before .before .args in
-    let p = c .before .before .pre in
-    let w = lies (now (a .s)) (a .at) (p .whole) in omega (arith, w .ordered, w .within)
-
-shared-slice-read-physical : tie.Need-shared-slice-read-physical
-shared-slice-read-physical c =
+add-b : tie.Need-add-b
+add-b c =
     let a = c .before .before .before .args in
-    let p = c .before .before .before .pre in
-    let w = lies (now (a .s)) (a .at) (p .whole) in omega (arith, w .ordered, w .within, p .some-body)
+    let w = lies (now (a .s)) (a .at) (c .before .before .before .pre .whole) in
+    let e = sym (c .before .u16-at .ensures .0) ∙ c .if1 .taken in
+    omega (arith, w .within, e)
 
-add-whole-type : tie.Need-add-whole-type
-add-whole-type c =
-    let a = c .before .before .before .args in
-    let p = c .before .before .before .pre in
-    let w = lies (now (a .s)) (a .at) (p .whole) in omega (arith, w .ordered, w .within, p .some-body)
+shared-slice-read-b : tie.Need-shared-slice-read-b
+shared-slice-read-b c =
+    let a = c .before .before .before .before .args in
+    let w = lies (now (a .s)) (a .at) (c .before .before .before .before .pre .whole) in
+    let e = sym (c .before .before .u16-at .ensures .0) ∙ c .before .if1 .taken in
+    omega (arith, w .within, e)
 
-whole-type-requires : tie.Need-whole-type-requires
-whole-type-requires c κs =
-    let a = c .before .before .before .args in
-    let p = c .before .before .before .pre in
-    let w = lies (now (a .s)) (a .at) (p .whole) in omega (arith, w .within)
+add-t6 : tie.Need-add-t6
+add-t6 c =
+    let a = c .before .before .before .before .args in
+    let w = lies (now (a .s)) (a .at) (c .before .before .before .before .pre .whole) in
+    let e = sym (c .before .before .u16-at .ensures .0) ∙ c .before .if1 .taken in
+    omega (arith, w .within, e)
 
-enum-known-host : tie.Need-enum-known-host
-enum-known-host c = search needs
+shared-slice-read-t8 : tie.Need-shared-slice-read-t8
+shared-slice-read-t8 c =
+    let a = c .before .before .before .before .before .args in
+    let w = lies (now (a .s)) (a .at) (c .before .before .before .before .before .pre .whole) in
+    let e = sym (c .before .before .before .u16-at .ensures .0) ∙ c .before .before .if1 .taken in
+    omega (arith, w .within, e)
 
-enum-told : tie.Need-enum-told
-enum-told c = search needs
+add-t13 : tie.Need-add-t13
+add-t13 c =
+    let a = c .before .before .before .before .before .args in
+    let w = lies (now (a .s)) (a .at) (c .before .before .before .before .before .pre .whole) in
+    let e = sym (c .before .before .before .u16-at .ensures .0) ∙ c .before .before .if1 .taken in
+    omega (arith, w .within, e)
 
 returns : tie.Need-returns
 returns c =
-    let s = now (c .before .before .before .before .before .before .args .s) in
-    let at = c .before .before .before .before .before .before .args .at in
-    let e = c .before .before .before .before .u16-at .ensures .0 in
-    slot-made s at (c .before .before .before .before .u16-at .result) _ e (host-none (wholeType s (endAt s at) (at + 5)) (cc))
+    let a = c .before .before .before .before .before .args in
+    plain-made (now (a .s)) (a .at) (sym (c .before .before .before .u16-at .ensures .0) ∙ c .before .before .if1 .taken)
+
+any-slot-at-requires : tie.Need-any-slot-at-requires
+any-slot-at-requires c κs = search needs
 
 returns-2 : tie.Need-returns-2
-returns-2 c =
-    let a = c .before .before .before .before .before .before .before .args in
-    let s = now (a .s) in
-    let at = a .at in
-    let e = c .before .before .before .before .before .u16-at .ensures .0 in
-    let k = c .before .host .given .0 in
-    slot-made s at (c .before .before .before .before .before .u16-at .result) (k .1 .0) e
-    (host-is (wholeType s (endAt s at) (at + 5)) (k .0) (k .1 .0) (cc))
+returns-2 c = search needs
 
 pub slot-at-spec : {M : Type 1} → statement M
 slot-at-spec =
     tie.close
     (tie.spec
-    add-end
     u16-at-requires
-    add-end-2
-    add-physical
-    shared-slice-read-physical
-    add-whole-type
-    whole-type-requires
-    enum-known-host
-    enum-told
+    add-b
+    shared-slice-read-b
+    add-t6
+    shared-slice-read-t8
+    add-t13
     returns
+    any-slot-at-requires
     returns-2)

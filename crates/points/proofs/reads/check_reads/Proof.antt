@@ -9,6 +9,7 @@ use denote.Ref.{now}
 use lib.ListN.{length, getD}
 use Rattle.bitset.specs.Sets.{member}
 use Rattle.memory.specs.Cells.{cell}
+use Rattle.memory.specs.Names.{stateRow}
 use Rattle.memory.specs.Scratch.{scratch, Room, Row}
 use Rattle.memory.proofs.ScratchLaws.{scratch-length, row-length, place-instructions}
 use Rattle.operands.specs.Instructions.{valuesOf}
@@ -17,7 +18,7 @@ use Rattle.script.specs.Script.{flowCode, parameterIn}
 use Rattle.sheet.specs.Decode.{partsOf}
 use Rattle.blocks.proofs.OperandLaws.{inputs-few}
 use Rattle.points.proofs.ReadLaws.{Reading, reading-none, reading-more, reads-filled, reads-over, reads-unfilled}
-use Rattle.points.proofs.ReadLaws.{noted-cost, noted-stands, noted-read, counted-once, not-missing}
+use Rattle.points.proofs.ReadLaws.{coded-kept, noted-cost, noted-stands, noted-read, counted-once, not-missing}
 use borrow.Author.Needs.{needs}
 use Rattle.points.proofs.reads.check_reads.Statement.{statement}
 use Rattle.points.proofs.reads.check_reads.Tie as tie
@@ -93,8 +94,10 @@ returns c =
     let charge = c .before .before .before .charge in
     let told = c .before .enum-told in
     let over = c .over in
-    let paid = noted-cost (now (args .sheet)) (args .script) (args .y) (scratch (args .y) (now (args .s))) (scratch (args .y) (block .s)) (pre .1)
-    (block .inv .3 .others) (block .pc) (omega (arith, test .taken, pre .3)) _ (cost .ensures) in
+    let coded = coded-kept (now (args .sheet)) (args .script) (args .y) (scratch (args .y) (now (args .s))) (scratch (args .y) (block .s))
+    (stateRow (args .y .blocks)) (omega arith) (omega arith) (pre .1) (block .inv .3 .others) in
+    let paid = noted-cost (now (args .sheet)) (args .script) (args .y) (scratch (args .y) (block .s)) coded (block .pc)
+    (omega (arith, test .taken, pre .3)) _ (cost .ensures) in
     reads-over (flowCode (partsOf (now (args .sheet)))) (parameterIn (partsOf (now (args .sheet)))) (args .y) (args .limits) (args .budget) (args
     .start) (args .end) (scratch (args .y) (now (args .s))) (block .left) (block .pc) (block .awaits) (scratch (args .y) (block .s)) (block .inv .3)
     (test .taken) _ paid _ (charge .ensures) _ _ (told .given .1) (over .ensures)
@@ -122,8 +125,10 @@ instruction-at-requires c κs =
     let block = c .before .before .before .before .before .before .before .before .before .block in
     let test = c .before .before .before .before .before .before .before .before .block-test in
     let offset = c .get2 in
-    noted-stands (now (args .sheet)) (args .script) (args .y) (scratch (args .y) (now (args .s))) (scratch (args .y) (block .s)) (pre .1) (block
-    .inv .3 .others) (block .pc) (omega (arith, test .taken, pre .3)) _ (offset .ensures)
+    let coded = coded-kept (now (args .sheet)) (args .script) (args .y) (scratch (args .y) (now (args .s))) (scratch (args .y) (block .s))
+    (stateRow (args .y .blocks)) (omega arith) (omega arith) (pre .1) (block .inv .3 .others) in
+    noted-stands (now (args .sheet)) (args .script) (args .y) (scratch (args .y) (block .s)) coded (block .pc) (omega (arith, test .taken, pre .3)) _
+    (offset .ensures)
 
 -- src/reads.rt:56:9
 loop-holds : tie.Need-loop-holds Inv-loop μ-loop Inv-block μ-block
@@ -133,8 +138,10 @@ loop-holds c =
     let block = c .before .before .before .before .before .before .before .before .before .before .block in
     let test = c .before .before .before .before .before .before .before .before .before .block-test in
     let cost = c .before .before .before .before .before .before .before .get in
-    let paid = noted-cost (now (args .sheet)) (args .script) (args .y) (scratch (args .y) (now (args .s))) (scratch (args .y) (block .s)) (pre .1)
-    (block .inv .3 .others) (block .pc) (omega (arith, test .taken, pre .3)) _ (cost .ensures) in
+    let coded = coded-kept (now (args .sheet)) (args .script) (args .y) (scratch (args .y) (now (args .s))) (scratch (args .y) (block .s))
+    (stateRow (args .y .blocks)) (omega arith) (omega arith) (pre .1) (block .inv .3 .others) in
+    let paid = noted-cost (now (args .sheet)) (args .script) (args .y) (scratch (args .y) (block .s)) coded (block .pc)
+    (omega (arith, test .taken, pre .3)) _ (cost .ensures) in
     (omega (arith, paid), λ j h. absurd (omega arith))
 
 -- src/reads.rt:56:15
@@ -149,10 +156,12 @@ add-loop c =
     let offset = c .before .before .get2 in
     let placed = c .before .instruction-at in
     let loop = c .loop in
-    let paid = noted-cost (now (args .sheet)) (args .script) (args .y) (scratch (args .y) (now (args .s))) (scratch (args .y) (block .s)) (pre .1)
-    (block .inv .3 .others) (block .pc) (omega (arith, test .taken, pre .3)) _ (cost .ensures) in
-    let r = noted-read (now (args .sheet)) (args .script) (args .y) (scratch (args .y) (now (args .s))) (scratch (args .y) (block .s)) (pre .1)
-    (block .inv .3 .others) (block .pc) (omega (arith, test .taken, pre .3)) _ (offset .ensures) _ (placed .ensures) in
+    let coded = coded-kept (now (args .sheet)) (args .script) (args .y) (scratch (args .y) (now (args .s))) (scratch (args .y) (block .s))
+    (stateRow (args .y .blocks)) (omega arith) (omega arith) (pre .1) (block .inv .3 .others) in
+    let paid = noted-cost (now (args .sheet)) (args .script) (args .y) (scratch (args .y) (block .s)) coded (block .pc)
+    (omega (arith, test .taken, pre .3)) _ (cost .ensures) in
+    let r = noted-read (now (args .sheet)) (args .script) (args .y) (scratch (args .y) (block .s)) coded (block .pc)
+    (omega (arith, test .taken, pre .3)) _ (offset .ensures) _ (placed .ensures) in
     omega (arith, good .0, loop .inv .0, paid, ap length (r .inputs-are), inputs-few _ _ (r .readable), r .readable .within)
 
 -- src/reads.rt:57:16
@@ -169,10 +178,12 @@ misses-input-requires c κs =
     let offset = c .before .before .before .before .get2 in
     let placed = c .before .before .before .instruction-at in
     let inner = c .before .loop-test in
-    let paid = noted-cost (now (args .sheet)) (args .script) (args .y) (scratch (args .y) (now (args .s))) (scratch (args .y) (block .s)) (pre .1)
-    (block .inv .3 .others) (block .pc) (omega (arith, test .taken, pre .3)) _ (cost .ensures) in
-    let r = noted-read (now (args .sheet)) (args .script) (args .y) (scratch (args .y) (now (args .s))) (scratch (args .y) (block .s)) (pre .1)
-    (block .inv .3 .others) (block .pc) (omega (arith, test .taken, pre .3)) _ (offset .ensures) _ (placed .ensures) in (
+    let coded = coded-kept (now (args .sheet)) (args .script) (args .y) (scratch (args .y) (now (args .s))) (scratch (args .y) (block .s))
+    (stateRow (args .y .blocks)) (omega arith) (omega arith) (pre .1) (block .inv .3 .others) in
+    let paid = noted-cost (now (args .sheet)) (args .script) (args .y) (scratch (args .y) (block .s)) coded (block .pc)
+    (omega (arith, test .taken, pre .3)) _ (cost .ensures) in
+    let r = noted-read (now (args .sheet)) (args .script) (args .y) (scratch (args .y) (block .s)) coded (block .pc)
+    (omega (arith, test .taken, pre .3)) _ (offset .ensures) _ (placed .ensures) in (
       r .readable,
       subst (λ (n : ℕ). Room (args .y) n) (sym (block .inv .2)) (pre .0),
       record {
@@ -223,8 +234,10 @@ insert-output-requires c κs =
     let test = c .before .before .before .before .before .before .before .before .before .before .before .before .block-test in
     let offset = c .before .before .before .before .get2 in
     let placed = c .before .before .before .instruction-at in
-    let r = noted-read (now (args .sheet)) (args .script) (args .y) (scratch (args .y) (now (args .s))) (scratch (args .y) (block .s)) (pre .1)
-    (block .inv .3 .others) (block .pc) (omega (arith, test .taken, pre .3)) _ (offset .ensures) _ (placed .ensures) in (
+    let coded = coded-kept (now (args .sheet)) (args .script) (args .y) (scratch (args .y) (now (args .s))) (scratch (args .y) (block .s))
+    (stateRow (args .y .blocks)) (omega arith) (omega arith) (pre .1) (block .inv .3 .others) in
+    let r = noted-read (now (args .sheet)) (args .script) (args .y) (scratch (args .y) (block .s)) coded (block .pc)
+    (omega (arith, test .taken, pre .3)) _ (offset .ensures) _ (placed .ensures) in (
       r .readable,
       subst (λ (n : ℕ). Room (args .y) n) (sym (block .inv .2)) (pre .0),
       record {
@@ -286,17 +299,20 @@ block-again c =
     let inner = c .before .before .before .before .before .loop-test in
     let insert = c .before .before .before .insert-output in
     let count = c .await-count in
-    let paid = noted-cost (now (args .sheet)) (args .script) (args .y) (scratch (args .y) (now (args .s))) (scratch (args .y) (block .s)) (pre .1)
-    (block .inv .3 .others) (block .pc) (omega (arith, test .taken, pre .3)) _ (cost .ensures) in
-    let r = noted-read (now (args .sheet)) (args .script) (args .y) (scratch (args .y) (now (args .s))) (scratch (args .y) (block .s)) (pre .1)
-    (block .inv .3 .others) (block .pc) (omega (arith, test .taken, pre .3)) _ (offset .ensures) _ (placed .ensures) in
+    let coded = coded-kept (now (args .sheet)) (args .script) (args .y) (scratch (args .y) (now (args .s))) (scratch (args .y) (block .s))
+    (stateRow (args .y .blocks)) (omega arith) (omega arith) (pre .1) (block .inv .3 .others) in
+    let paid = noted-cost (now (args .sheet)) (args .script) (args .y) (scratch (args .y) (block .s)) coded (block .pc)
+    (omega (arith, test .taken, pre .3)) _ (cost .ensures) in
+    let r = noted-read (now (args .sheet)) (args .script) (args .y) (scratch (args .y) (block .s)) coded (block .pc)
+    (omega (arith, test .taken, pre .3)) _ (offset .ensures) _ (placed .ensures) in
     let room : Room (args .y) (length (block .s)) = subst (λ (n : ℕ). Room (args .y) n) (sym (block .inv .2)) (pre .0) in
     let row : Row (args .y) (state .result) = record { low = omega (arith, state .ensures); high = omega (arith, state .ensures) } in (
       omega (arith, block .inv .0),
       omega (arith, test .taken),
       insert .kept .1 .0 ∙ block .inv .2,
       reading-more (flowCode (partsOf (now (args .sheet)))) (parameterIn (partsOf (now (args .sheet)))) (args .y) (args .limits) (args .budget)
-          (args .start) (args .end) (scratch (args .y) (now (args .s))) (block .left) (block .pc) (block .awaits) (scratch (args .y) (block .s)) (block
+          (args .start) (args .end) (scratch (args .y) (now (args .s))) (block .left) (block .pc) (block .awaits) (scratch (args .y) (block .s))
+          (block
           .inv .3) (test .taken) _ paid _ (charge .ensures) _ (bound .given .1) _ (r .inputs-are) (r .inputs-below) _ _ _ _ _ (state .ensures) (omega
           (arith, scratch-length (args .y) (block .s), state .ensures)) (row-length (block .s) room row) (λ j h. loop .inv .1 j (omega (
             arith,
@@ -322,11 +338,13 @@ returns-2 c =
     let block = c .before .before .block in
     let test = c .before .block-test in
     let if2 = c .if2 in
+    let coded = coded-kept (now (args .sheet)) (args .script) (args .y) (scratch (args .y) (now (args .s))) (scratch (args .y) (block .s))
+    (stateRow (args .y .blocks)) (omega arith) (omega arith) (pre .1) (block .inv .3 .others) in
     ⊎-elim (λ w. absurd (omega (arith, w .0 .left, if2 .taken)))
-    (λ w. let r = noted-read (now (args .sheet)) (args .script) (args .y) (scratch (args .y) (now (args .s))) (scratch (args .y) (block .s))
-    (pre .1) (block .inv .3 .others) (block .pc) (omega (arith, w .0 .taken, pre .3)) _ (w .8 .ensures) _ (w .9 .ensures) in
-    let paid = noted-cost (now (args .sheet)) (args .script) (args .y) (scratch (args .y) (now (args .s))) (scratch (args .y) (block .s))
-    (pre .1) (block .inv .3 .others) (block .pc) (omega (arith, w .0 .taken, pre .3)) _ (w .2 .ensures) in
+    (λ w. let r = noted-read (now (args .sheet)) (args .script) (args .y) (scratch (args .y) (block .s)) coded (block .pc)
+    (omega (arith, w .0 .taken, pre .3)) _ (w .8 .ensures) _ (w .9 .ensures) in
+    let paid = noted-cost (now (args .sheet)) (args .script) (args .y) (scratch (args .y) (block .s)) coded (block .pc)
+    (omega (arith, w .0 .taken, pre .3)) _ (w .2 .ensures) in
     reads-unfilled (flowCode (partsOf (now (args .sheet)))) (parameterIn (partsOf (now (args .sheet)))) (args .y) (args .limits) (args .budget)
     (args .start) (args .end) (scratch (args .y) (now (args .s))) (block .left) (block .pc) (block .awaits) (scratch (args .y) (block .s))
     (block .inv .3) (w .0 .taken) _ paid _ (w .3 .ensures) _ (w .5 .given .1) _ (r .inputs-are) (r .inputs-below) _ (w .10 .k)

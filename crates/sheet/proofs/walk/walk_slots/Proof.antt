@@ -22,8 +22,8 @@ loop-holds : tie.Need-loop-holds Inv-loop μ-loop
 loop-holds c =
     run-start (λ x. slotFault (now (c .before .args .s)) x) (now (c .before .args .s)) (c .before .args .slots) (c .before .args .first)
 
-slot-record-requires : tie.Need-slot-record-requires Inv-loop μ-loop
-slot-record-requires c κs = search needs
+slot-at-requires : tie.Need-slot-at-requires Inv-loop μ-loop
+slot-at-requires c κs = search needs
 
 enum-known-step : tie.Need-enum-known-step Inv-loop μ-loop
 enum-known-step c = search needs
@@ -37,7 +37,7 @@ returns c =
     let l = c .before .before .before .before .loop in
     let t = c .enum-told .given in
     let s = now (a .s) in
-    let h = halted (slotFault s (l .at)) (endAt s (l .at)) (kindAt s (l .at)) (t .0 .0) (sym (t .1) ∙ c .before .before .slot-record .ensures) in
+    let h = halted (slotFault s (l .at)) (endAt s (l .at)) (kindAt s (l .at)) (t .0 .0) (sym (t .1) ∙ c .before .before .slot-at .ensures) in
     rw (t .1, run-stop (λ x. slotFault s x) s (a .slots) (a .first) (l .at) (l .i) (l .inv) (t .0 .0) (omega arith) h)
 
 add-i : tie.Need-add-i Inv-loop μ-loop
@@ -53,7 +53,7 @@ loop-again c =
     let g = c .before .step .given in
     let s = now (a .s) in
     let w = went (slotFault s (l .at)) (endAt s (l .at)) (kindAt s (l .at)) (g .0 .0) (g .0 .1 .0)
-    (sym (g .1) ∙ c .before .before .before .slot-record .ensures) in
+    (sym (g .1) ∙ c .before .before .before .slot-at .ensures) in
     run-more (λ x. slotFault s x) s (a .slots) (a .first) (l .at) (l .i) (l .inv) (g .0 .0) (omega arith) (w .no-fault) (w .is-end)
 
 returns-2 : tie.Need-returns-2 Inv-loop μ-loop
@@ -73,7 +73,7 @@ walk-slots-spec =
     Inv-loop
     μ-loop
     loop-holds
-    slot-record-requires
+    slot-at-requires
     enum-known-step
     enum-told
     returns

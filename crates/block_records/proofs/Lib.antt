@@ -1,0 +1,3 @@
+-- laws
+pub mod Filled
+pub mod RecordLaws

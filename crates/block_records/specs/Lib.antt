@@ -1,0 +1,2 @@
+-- Block structs.
+pub mod Records

@@ -1,0 +1,31 @@
+-- The block list as structs, from the words of scratch.
+use mathlib.Core.List.{List, [], _∷_}
+use Prim.Native.Nat.{ℕ, _+_, _*_, _^_, _%_}
+use lib.Dec.{ltb}
+use Rattle.dataflow.specs.Lists.{pick}
+use Rattle.memory.specs.Cells.{Mem, word}
+use Rattle.memory.specs.Names.{startCell, endCell, reachableCell, successorCountCell, successorCell}
+use Rattle.block_records.specs.declared.Block.{Block}
+
+-- a struct's six numbers, in their order
+abbrev pub numbersOf : Block → List ℕ
+numbersOf b =
+    b .start ∷ b .end ∷ b .reachable ∷ b .«successor_count» ∷ b .«successor_0» ∷ b .«successor_1» ∷ []
+
+-- block i from its words, each cut to 32 bits; the words of a script that passed fit
+abbrev pub blockIn : Mem → ℕ → Block
+blockIn m i = record {
+  start = word m startCell i % 2 ^ 32;
+  end = word m endCell i % 2 ^ 32;
+  reachable = word m reachableCell i % 2 ^ 32;
+  «successor_count» = word m successorCountCell i % 2 ^ 32;
+  «successor_0» = word m successorCell (2 * i) % 2 ^ 32;
+  «successor_1» = word m successorCell (2 * i + 1) % 2 ^ 32;
+}
+
+abbrev pub zeroBlock : Block
+zeroBlock = record { start = 0; end = 0; reachable = 0; «successor_count» = 0; «successor_0» = 0; «successor_1» = 0 }
+
+-- record i of the list of so many blocks
+unfoldable pub listedBlock : Mem → ℕ → ℕ → Block
+listedBlock m blocks i = pick (ltb i blocks) (blockIn m i) zeroBlock

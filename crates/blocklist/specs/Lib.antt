@@ -1,0 +1,2 @@
+-- The block list of a script, from the words of scratch.
+pub mod List

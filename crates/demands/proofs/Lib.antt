@@ -1,0 +1,7 @@
+-- The laws of what an answer says.
+pub mod TableLaws
+pub mod HeldLaws
+pub mod SheetNumbers
+pub mod RowLaws
+pub mod AcceptLaws
+pub mod DemandLaws

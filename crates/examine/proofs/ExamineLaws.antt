@@ -1,0 +1,198 @@
+-- `finish` and `examine`: what their calls ask for, and what they do by what the calls do. Assumes nothing.
+use mathlib.Core.Path.{_≡_, refl, sym, ap, ap₂, subst, _∙_}
+use mathlib.Core.List.{List, _++_}
+use Prim.Native.Nat.{ℕ, _+_, _*_, _-_, _/_, _^_, _≤_, _<_}
+use native.Mathlib.Nat.{mul-le-mul, mul-le-mul-right}
+use native.Mathlib.Omega.{arith}
+use lib.ListN.{length, getD, take, replicate}
+use lib.Seq.{length-take-le}
+use Rattle.budget.specs.declared.FlowBudget.{FlowBudget}
+use Rattle.budget.specs.declared.Limits.{Limits}
+use Rattle.format.specs.declared.refusal.Refusal.{Refusal}
+use Rattle.memory.specs.declared.layout.Layout.{Layout}
+use Rattle.sheet.specs.declared.script.Script.{Script}
+use Rattle.sheet.specs.declared.script.Checked.{Checked}
+use Rattle.sheet.specs.declared.script.Checked.the-variants as checking
+use Rattle.sheet.specs.Decode.{partsOf}
+use Rattle.sheet.specs.Checks.{scriptOf, Checks}
+use Rattle.sheet.proofs.Checked.{passed}
+use Rattle.script.specs.Script.{flowCode, parameterIn}
+use Rattle.instructions.specs.Sound.{Sound}
+use Rattle.instructions.proofs.Sound.{sound-checked}
+use Rattle.verdict.specs.Points.{points}
+use Rattle.check_points.proofs.SpanLaws.{points-few}
+use Rattle.outcome.specs.Outcome.{Lengths, accepted, afterChecks, judged, outcomeOf}
+use Rattle.outcome.specs.Buffers.{padded, setWords, setsAfter}
+use Rattle.demands.specs.Table.{Due, acceptance}
+use Rattle.demands.proofs.TableLaws.{table}
+use Rattle.judge.specs.declared.Judged.{Judged}
+use Rattle.judge.specs.declared.Judged.the-variants as judging
+use Rattle.judge.specs.Judge.{outcomeBy, Accepts, Judges}
+use Rattle.examine.specs.declared.Examined.{Examined}
+use Rattle.examine.specs.declared.Examined.the-variants.{Accepted, Refused}
+use Rattle.examine.specs.Examine.{lengthsOf, outcomeIn, Listing, Examines}
+use Rattle.examine.specs.Stages.{zeros, cutAt, answerWords, examinedBy, Acceptable, Finishing, Finishes}
+use Rattle.examine.proofs.ContentLaws.{content}
+use Rattle.examine.proofs.ListingLaws.{listing}
+
+-- ---- `accept`
+
+-- its numbers fit
+pub entries-small : (y : Layout) (awaits : ℕ) (v : List ℕ) → Acceptable y awaits v → awaits * (1 + y .words) < 2 ^ 64
+entries-small y awaits v h =
+    let words : 1 + y .words ≤ 1025 = omega (arith, h .room .words) in
+    let few : awaits ≤ 65536 = omega (arith, h .few, h .room .awaits) in
+    omega (arith, mul-le-mul few words)
+
+pub answer-small : (y : Layout) (awaits : ℕ) (v : List ℕ) → Acceptable y awaits v → answerWords y awaits < 2 ^ 64
+answer-small y awaits v h =
+    let words : 1 + y .words ≤ 1025 = omega (arith, h .room .words) in
+    let few : awaits ≤ 65536 = omega (arith, h .few, h .room .awaits) in
+    omega (arith, mul-le-mul few words, mul-le-mul (h .room .blocks) (h .room .words))
+
+-- the words of the answer are there
+pub answer-inside : (y : Layout) (awaits : ℕ) (v : List ℕ) → Acceptable y awaits v → answerWords y awaits ≤ length v
+answer-inside y awaits v h = omega (arith, h .room .fits, mul-le-mul-right (1 + y .words) (h .few))
+
+-- ---- `finish`
+
+module _ (id : ℕ) (j : Judged) (w v : List ℕ) where
+  -- the judging accepted
+  pub finishes-on : (y : Layout) (awaits : ℕ) (left : FlowBudget) (w′ v′ : List ℕ) (r : Examined) → j ≡ judging.Accepted y awaits left
+      → r ≡ Accepted id y awaits left → w′ ≡ w → v′ ≡ cutAt (answerWords y awaits) v → Finishes id j w w′ v v′ r
+  finishes-on y awaits left w′ v′ r e er ew ev = record {
+    answer = er ∙ ap (examinedBy id) (sym e);
+    kept = λ z n b q.
+        let a : z ≡ y = cc in
+        let d : n ≡ awaits = cc in
+        (ew, ev ∙ ap₂ (λ (u : Layout) (k : ℕ). cutAt (answerWords u k) v) (sym a) (sym d));
+    cleared = λ n b q. let o : _≡_ {A = ℕ} 0 1 = cc in absurd (omega arith);
+  }
+
+  -- it refused
+  pub finishes-refused : (n : Refusal) (left : FlowBudget) (w′ v′ : List ℕ) (r : Examined) → j ≡ judging.Refused n left → r ≡ Refused n id left
+      → w′ ≡ zeros w → v′ ≡ zeros v → Finishes id j w w′ v v′ r
+  finishes-refused n left w′ v′ r e er ew ev = record {
+    answer = er ∙ ap (examinedBy id) (sym e);
+    kept = λ z k b q. let o : _≡_ {A = ℕ} 0 1 = cc in absurd (omega arith);
+    cleared = λ k b q. (ew, ev);
+  }
+
+-- ---- `examine`
+
+-- words cut behind what they begin with
+cut-padded : (l m : List ℕ) (k n : ℕ) → k ≤ length l → length l ≡ n → take k l ≡ m → cutAt k l ≡ padded n m
+cut-padded l m k n le long e =
+    ap (λ (r : List ℕ). r ++ replicate (length l - k) 0) e
+    ∙ ap (λ (i : ℕ). m ++ replicate i 0)
+    (let q : length l - k ≡ n - length m = omega (arith, long, ap length e, length-take-le k l le) in q)
+
+-- both name the same answer
+outcome-same : (id : ℕ) (j : Judged) → outcomeIn (examinedBy id j) ≡ outcomeBy id j
+outcome-same id (judging.Accepted y n b) = refl
+outcome-same id (judging.Refused r b) = refl
+
+-- an acceptance that is due counts the awaits
+due-count : (s : List ℕ) (l : Limits) (n : Lengths) (b : FlowBudget) (id blocks awaits : ℕ) (left : FlowBudget)
+    → Due s l n b (accepted id blocks awaits left)
+    → awaits ≡ length (points (flowCode (partsOf s)) (parameterIn (partsOf s)) ((scriptOf s .slots + 63) / 64))
+due-count s l n b id blocks awaits left (acceptance z g) = refl
+
+module _ (s : List ℕ) (l : Limits) (records : ℕ) (b : FlowBudget) (w v : List ℕ) (c : Checked) (checks : Checks s c) where
+  -- the checks refuse
+  pub examines-refused : (q : Refusal) (id : ℕ) (w′ v′ : List ℕ) (r : Examined) → c ≡ checking.Refused q id → r ≡ Refused q id b
+      → w′ ≡ zeros w → v′ ≡ zeros v → Examines s l records b w w′ v v′ r
+  unfolding outcomeOf
+  examines-refused q id w′ v′ r ec er ew ev = record {
+    answer = ap outcomeIn er ∙ ap (afterChecks s l (lengthsOf w v records) b) (sym ec ∙ checks .answer);
+    sets = ev ∙ ap (λ (z : Examined). setsAfter s (lengthsOf w v records) (outcomeIn z)) (sym er);
+    cleared = λ n i z e. ew;
+    listing = λ i y awaits z e. let o : _≡_ {A = ℕ} 0 1 = cc in absurd (omega arith);
+  }
+
+  -- they pass, and the script is judged
+  module _ (x : Script) (ec : c ≡ checking.Passed x) where
+    pub sound-here : Sound s x
+    sound-here = sound-checked s c x checks ec
+
+    judged-is : judged s x l (lengthsOf w v records) b ≡ outcomeOf s l (lengthsOf w v records) b
+    unfolding outcomeOf
+    judged-is = ap (afterChecks s l (lengthsOf w v records) b) (sym ec ∙ checks .answer)
+
+    script-is : x ≡ scriptOf s
+    script-is = passed s x (sym (checks .answer) ∙ ec) .1
+
+    module _ (j : Judged) (w₁ v₁ : List ℕ) (h : Judges s x l records b w w₁ v v₁ j) where
+      -- it accepted
+      module _ (y : Layout) (awaits : ℕ) (left : FlowBudget) (e : j ≡ judging.Accepted y awaits left) where
+        holds : Accepts s x (record { sets = length v; records = records }) w₁ v₁ y
+        holds = h .accepts y awaits left e
+
+        count : awaits ≡ length (points (flowCode (partsOf s)) (parameterIn (partsOf s)) (y .words))
+        count =
+            due-count s l (lengthsOf w v records) b (x .id) (y .blocks) awaits left
+            (table s l (lengthsOf w v records) b (accepted (x .id) (y .blocks) awaits left) .1
+            (sym (h .answer ∙ judged-is) ∙ ap (outcomeBy (x .id)) e))
+            ∙ ap (λ (z : Script). length (points (flowCode (partsOf s)) (parameterIn (partsOf s)) ((z .slots + 63) / 64))) (sym script-is)
+            ∙ ap (λ (k : ℕ). length (points (flowCode (partsOf s)) (parameterIn (partsOf s)) k)) (sym (holds .words))
+
+        few : awaits ≤ y .awaits
+        few = omega (arith, count, points-few s x sound-here (y .words), holds .awaits)
+
+        acceptable : Acceptable y awaits v₁
+        acceptable = record { room = holds .sets-room; few = few }
+
+        -- the sets buffer begins with the answer
+        answer-there : ((i : ℕ) → getD v₁ i 0 < 2 ^ 64) → take (answerWords y awaits) v₁ ≡ setWords s ((partsOf s .slots + 63) / 64) (y .blocks)
+        answer-there fit =
+            ap (λ (k : ℕ). take (answerWords y k) v₁) count
+            ∙ content (flowCode (partsOf s)) (parameterIn (partsOf s)) y v₁ (holds .sets-room) fit
+            (points (flowCode (partsOf s)) (parameterIn (partsOf s)) (y .words)) (holds .finished .both) (holds .finished .facts)
+            (omega (arith, few, count))
+            ∙ ap (λ (k : ℕ). setWords s k (y .blocks))
+            (holds .words ∙ ap (λ (k : ℕ). (k + 63) / 64) (sym (sound-here .slots-are)))
+
+      -- what `finish` asks
+      pub finishing : Finishing j v₁
+      finishing = record { acceptable = acceptable }
+
+      module _ (fit : (i : ℕ) → getD v₁ i 0 < 2 ^ 64) (long : length w₁ ≡ length w) (sets-long : length v₁ ≡ length v)
+          (w₂ v₂ : List ℕ) (r : Examined) (f : Finishes (x .id) j w₁ w₂ v₁ v₂ r) where
+        answer-is : outcomeIn r ≡ outcomeOf s l (lengthsOf w v records) b
+        answer-is = ap outcomeIn (f .answer) ∙ outcome-same (x .id) j ∙ h .answer ∙ judged-is
+
+        accepted-on : (y : Layout) (awaits : ℕ) (left : FlowBudget) → j ≡ judging.Accepted y awaits left → Examines s l records b w w₂ v v₂ r
+        accepted-on y awaits left e =
+            let k = f .kept y awaits left e in
+            let er : r ≡ Accepted (x .id) y awaits left = f .answer ∙ ap (examinedBy (x .id)) e in
+            record {
+              answer = answer-is;
+              sets = k .1
+                  ∙ cut-padded v₁ (setWords s ((partsOf s .slots + 63) / 64) (y .blocks)) (answerWords y awaits) (length v)
+                  (answer-inside y awaits v₁ (acceptable y awaits left e)) sets-long (answer-there y awaits left e fit)
+                  ∙ ap (λ (z : Examined). setsAfter s (lengthsOf w v records) (outcomeIn z)) (sym er);
+              cleared = λ q id z p. let o : _≡_ {A = ℕ} 0 1 = cc in absurd (omega arith);
+              listing = λ id z n q p.
+                  let a : y ≡ z = cc in
+                  subst (Listing s records w₂) a
+                  (subst (λ (u : List ℕ). Listing s records u y) (sym (k .0)) (listing s x _ w₁ v₁ y (holds y awaits left e)));
+            }
+
+        refused-on : (q : Refusal) (left : FlowBudget) → j ≡ judging.Refused q left → Examines s l records b w w₂ v v₂ r
+        refused-on q left e =
+            let k = f .cleared q left e in
+            let er : r ≡ Refused q (x .id) left = f .answer ∙ ap (examinedBy (x .id)) e in
+            record {
+              answer = answer-is;
+              sets = k .1 ∙ ap (λ (n : ℕ). replicate n 0) sets-long
+                  ∙ ap (λ (z : Examined). setsAfter s (lengthsOf w v records) (outcomeIn z)) (sym er);
+              cleared = λ n id z p. k .0 ∙ ap (λ (i : ℕ). replicate i 0) long;
+              listing = λ id y n z p. let o : _≡_ {A = ℕ} 0 1 = cc in absurd (omega arith);
+            }
+
+        pub examines-on : Examines s l records b w w₂ v v₂ r
+        examines-on = go j refl
+          where
+            go : (i : Judged) → j ≡ i → Examines s l records b w w₂ v v₂ r
+            go (judging.Accepted y awaits left) e = accepted-on y awaits left e
+            go (judging.Refused q left) e = refused-on q left e

@@ -1,0 +1,40 @@
+-- What `examine` answers and leaves: of the sheet, the lengths of the buffers and the budget.
+use mathlib.Core.Path.{_≡_}
+use mathlib.Core.List.{List}
+use Prim.Native.Nat.{ℕ, _≤_, _<_}
+use lib.ListN.{length, replicate}
+use Rattle.budget.specs.declared.FlowBudget.{FlowBudget}
+use Rattle.budget.specs.declared.Limits.{Limits}
+use Rattle.format.specs.declared.refusal.Refusal.{Refusal}
+use Rattle.memory.specs.declared.layout.Layout.{Layout}
+use Rattle.memory.specs.Scratch.{scratch, Room}
+use Rattle.sheet.specs.Decode.{partsOf}
+use Rattle.script.specs.Script.{flowCode, parameterIn}
+use Rattle.outcome.specs.Outcome.{Lengths, Outcome, accepted, refused, outcomeOf}
+use Rattle.outcome.specs.Buffers.{blockRecord, setsAfter}
+use Rattle.blocklist.specs.List.{recordIn}
+use Rattle.examine.specs.declared.Examined.{Examined}
+use Rattle.examine.specs.declared.Examined.the-variants.{Accepted, Refused}
+
+-- how long the buffers w and v are, with so many block records
+abbrev pub lengthsOf : List ℕ → List ℕ → ℕ → Lengths
+lengthsOf w v records = record { scratch = length w; sets = length v; records = records }
+
+-- the answer
+abbrev pub outcomeIn : Examined → Outcome
+outcomeIn (Accepted id y awaits b) = accepted id (y .blocks) awaits b
+outcomeIn (Refused r id b) = refused r id b
+
+-- scratch holds the words of each block record, and so many records are lent
+pub record Listing (s : List ℕ) (records : ℕ) (w : List ℕ) (y : Layout) : Type 0 where
+  pub room : Room y (length w)
+  pub lent : y .blocks ≤ records
+  pub record-is : (c : ℕ) → c < y .blocks
+      → recordIn (scratch y w) c ≡ blockRecord (flowCode (partsOf s)) (parameterIn (partsOf s)) (y .words) c
+
+-- what `examine` does with the words w of scratch and v of the sets buffer
+pub record Examines (s : List ℕ) (l : Limits) (records : ℕ) (b : FlowBudget) (w w′ v v′ : List ℕ) (r : Examined) : Type 0 where
+  pub answer : outcomeIn r ≡ outcomeOf s l (lengthsOf w v records) b
+  pub sets : v′ ≡ setsAfter s (lengthsOf w v records) (outcomeIn r)
+  pub cleared : (q : Refusal) (id : ℕ) (left : FlowBudget) → r ≡ Refused q id left → w′ ≡ replicate (length w) 0
+  pub listing : (id : ℕ) (y : Layout) (awaits : ℕ) (left : FlowBudget) → r ≡ Accepted id y awaits left → Listing s records w′ y

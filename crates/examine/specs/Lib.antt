@@ -1,0 +1,3 @@
+-- A sheet examined.
+pub mod Examine
+pub mod Stages

@@ -1,0 +1,46 @@
+-- How `examine` ends: the answer of the judging with the function's id, and both buffers as they are left.
+use mathlib.Core.Path.{_≡_}
+use mathlib.Core.List.{List, _++_}
+use Prim.Native.Nat.{ℕ, _+_, _*_, _-_, _≤_}
+use lib.ListN.{length, take, replicate}
+use Rattle.budget.specs.declared.FlowBudget.{FlowBudget}
+use Rattle.format.specs.declared.refusal.Refusal.{Refusal}
+use Rattle.memory.specs.declared.layout.Layout.{Layout}
+use Rattle.memory.specs.Sets.{SetsRoom}
+use Rattle.judge.specs.declared.Judged.{Judged}
+use Rattle.judge.specs.declared.Judged.the-variants as judging
+use Rattle.examine.specs.declared.Examined.{Examined}
+use Rattle.examine.specs.declared.Examined.the-variants.{Accepted, Refused}
+
+-- as many zeros as there are words
+abbrev pub zeros : List ℕ → List ℕ
+zeros l = replicate (length l) 0
+
+-- the first n words, then zeros
+abbrev pub cutAt : ℕ → List ℕ → List ℕ
+cutAt n l = take n l ++ replicate (length l - n) 0
+
+-- how many words of the sets buffer the answer takes
+abbrev pub answerWords : Layout → ℕ → ℕ
+answerWords y awaits = y .blocks * 2 * y .words + awaits * (1 + y .words)
+
+-- an answer of the judging, with the function's id
+abbrev pub examinedBy : ℕ → Judged → Examined
+examinedBy id (judging.Accepted y n b) = Accepted id y n b
+examinedBy id (judging.Refused r b) = Refused r id b
+
+-- what `accept` asks: the words of the sets buffer are enough for all awaits, and these are some of them
+pub record Acceptable (y : Layout) (awaits : ℕ) (v : List ℕ) : Type 0 where
+  pub room : SetsRoom y (length v)
+  pub few : awaits ≤ y .awaits
+
+-- what `finish` asks
+pub record Finishing (j : Judged) (v : List ℕ) : Type 0 where
+  pub acceptable : (y : Layout) (awaits : ℕ) (left : FlowBudget) → j ≡ judging.Accepted y awaits left → Acceptable y awaits v
+
+-- what `finish` does: after acceptance scratch stays, and the sets buffer keeps the answer alone
+pub record Finishes (id : ℕ) (j : Judged) (w w′ v v′ : List ℕ) (r : Examined) : Type 0 where
+  pub answer : r ≡ examinedBy id j
+  pub kept : (y : Layout) (awaits : ℕ) (left : FlowBudget) → j ≡ judging.Accepted y awaits left
+      → (w′ ≡ w) × (v′ ≡ cutAt (answerWords y awaits) v)
+  pub cleared : (q : Refusal) (left : FlowBudget) → j ≡ judging.Refused q left → (w′ ≡ zeros w) × (v′ ≡ zeros v)

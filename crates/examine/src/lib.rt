@@ -1,0 +1,70 @@
+// A sheet examined: the checks of the sheet, the judging of its script, and the sets buffer as it is left.
+pub mod clear;
+
+use budget::FlowBudget;
+use budget::Limits;
+use format::refusal::Refusal;
+use judge::Judged;
+use memory::layout::Layout;
+use sheet::script::Checked;
+ghost use mathlib.Core.Path.{_≡_};
+ghost use Prim.Native.Nat.{_-_, _^_, _<_};
+ghost use Rattle.examine.specs.Examine.{Examines};
+ghost use Rattle.examine.specs.Stages.{zeros, cutAt, answerWords, Acceptable, Finishing, Finishes};
+
+// Accepted with the function's id, the layout of scratch, how many awaits are reached, and the budget; or refused with the id and the budget.
+pub enum Examined {
+    Accepted(u32, Layout, usize, FlowBudget),
+    Refused(Refusal, u32, FlowBudget),
+}
+
+// The sheet checks, then the judging. After a refusal both buffers are zero; after acceptance the sets buffer holds the answer and then zeros, and
+// scratch the blocks. `records` is how many block records are lent.
+pub fn examine(
+    sheet: &[u8],
+    s: &mut [u64],
+    t: &mut [u64],
+    records: usize,
+    limits: Limits,
+    budget: FlowBudget,
+) -> Examined
+    requires { ⌜ limits .work < 2 ^ 64 - 1 ⌝ }
+    ensures { λ r. ⌜ Examines (now (sheet .entry)) limits records budget (now (s .entry)) (now (s .exit)) (now (t .entry)) (now (t .exit)) r ⌝ }
+{
+    match sheet::check(sheet) {
+        Checked::Refused(r, id) => refuse(s, t, r, id, budget),
+        Checked::Passed(script) => {
+            let j = judge::judge(sheet, s, t, script, records, limits, budget);
+            finish(s, t, script.id, j)
+        }
+    }
+}
+
+// The answer of the judging, and the buffers as it asks.
+fn finish(s: &mut [u64], t: &mut [u64], id: u32, j: Judged) -> Examined
+    requires { ⌜ Finishing j (now t) ⌝ }
+    ensures { λ r. ⌜ Finishes id j (now (s .entry)) (now (s .exit)) (now (t .entry)) (now (t .exit)) r ⌝ }
+{
+    match j {
+        Judged::Accepted(y, awaits, left) => accept(t, id, y, awaits, left),
+        Judged::Refused(r, left) => refuse(s, t, r, id, left),
+    }
+}
+
+// What lies past the answer is cleared.
+fn accept(t: &mut [u64], id: u32, y: Layout, awaits: usize, left: FlowBudget) -> Examined
+    requires { ⌜ Acceptable y awaits (now t) ⌝ }
+    ensures { λ r. ⌜ (r ≡ Examined.Accepted id y awaits left) × (now (t .exit) ≡ cutAt (answerWords y awaits) (now (t .entry))) ⌝ }
+{
+    clear::clear_from(t, y.blocks * 2 * y.words + awaits * (1 + y.words));
+    Examined::Accepted(id, y, awaits, left)
+}
+
+// Both buffers are cleared.
+fn refuse(s: &mut [u64], t: &mut [u64], r: Refusal, id: u32, left: FlowBudget) -> Examined
+    ensures { λ e. ⌜ (e ≡ Examined.Refused r id left) × (now (s .exit) ≡ zeros (now (s .entry))) × (now (t .exit) ≡ zeros (now (t .entry))) ⌝ }
+{
+    clear::clear(s);
+    clear::clear(t);
+    Examined::Refused(r, id, left)
+}

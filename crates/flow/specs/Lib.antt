@@ -1,0 +1,2 @@
+-- The call that checks a sheet.
+pub mod Verify

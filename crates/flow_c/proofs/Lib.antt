@@ -1,0 +1,2 @@
+-- Laws of the exported call.
+pub mod HostLaws

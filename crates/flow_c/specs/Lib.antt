@@ -1,0 +1,2 @@
+-- The call for hosts.
+pub mod Exports

@@ -1,0 +1,73 @@
+// The call for hosts in C and Rust.
+use block_records::Block;
+use budget::FlowBudget;
+use flow::Answer;
+ghost use mathlib.Core.Path.{_≡_};
+ghost use Rattle.flow.specs.Verify.{outcomeBy};
+ghost use Rattle.flow_c.specs.Exports.{budgetOf, answerOf, HostVerified};
+
+// Work charged and bytes retained so far.
+#[repr(C)]
+pub struct HostBudget {
+    pub work: u64,
+    pub retained: u64,
+}
+
+// Number 0: accepted, with how many blocks there are and how many awaits are reached. Else the number of the refusal, and zeros for these.
+#[repr(C)]
+pub struct FlowAnswer {
+    pub number: u32,
+    pub function: u32,
+    pub blocks: u64,
+    pub awaits: u64,
+    pub work: u64,
+    pub retained: u64,
+}
+
+// Any bytes, any budget, any buffers: as `verify` of crate flow_blocks.
+#[no_mangle]
+pub extern "C" fn kagari_flow_verify(
+    sheet: &[u8],
+    budget: HostBudget,
+    blocks: &mut [Block],
+    sets: &mut [u64],
+    scratch: &mut [u64],
+) -> FlowAnswer
+    ensures { λ r. ⌜ HostVerified (now (sheet .entry)) (budgetOf budget) (now (blocks .entry)) (now (blocks .exit)) (now (sets .entry)) (now (sets .exit)) (now (scratch .entry)) (now (scratch .exit)) r ⌝ }
+{
+    let b = budget_of(budget);
+    let a = flow_blocks::verify(sheet, b, blocks, sets, scratch);
+    answer_of(a)
+}
+
+fn budget_of(b: HostBudget) -> FlowBudget
+    ensures { λ r. ⌜ r ≡ budgetOf b ⌝ }
+{
+    FlowBudget {
+        work: b.work,
+        retained: b.retained,
+    }
+}
+
+fn answer_of(a: Answer) -> FlowAnswer
+    ensures { λ r. ⌜ r ≡ answerOf (outcomeBy a) ⌝ }
+{
+    match a {
+        Answer::Accepted(id, blocks, awaits, b) => FlowAnswer {
+            number: 0,
+            function: id,
+            blocks: blocks as u64,
+            awaits: awaits as u64,
+            work: b.work,
+            retained: b.retained,
+        },
+        Answer::Refused(r, id, b) => FlowAnswer {
+            number: r.number() as u32,
+            function: id,
+            blocks: 0,
+            awaits: 0,
+            work: b.work,
+            retained: b.retained,
+        },
+    }
+}

@@ -1,0 +1,3 @@
+-- The listing of an answer.
+pub mod Lines
+pub mod Text
