@@ -116,7 +116,7 @@ fn damage_record(random: &mut Random, sheet: &mut Vec<u8>) {
 }
 
 /// Where the records lie, as far as their lengths go.
-fn records(sheet: &[u8]) -> Vec<Range<usize>> {
+pub fn records(sheet: &[u8]) -> Vec<Range<usize>> {
     let mut found = Vec::new();
     let mut at = 0;
     while let Some(&length) = sheet[at..].first_chunk::<2>() {

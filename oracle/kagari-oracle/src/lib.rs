@@ -34,4 +34,5 @@ pub use script::{ABSENT, Instruction, Script, SlotType, Type};
 pub use sheet::sheet;
 pub use verify::{Answer, Budget, function, verify, verify_function};
 
+pub use kagari_bytecode::module::BytecodeFunction;
 pub use kagari_bytecode::verifier::{AwaitFacts, BlockFacts, Facts};

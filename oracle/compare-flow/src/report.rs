@@ -1,0 +1,140 @@
+//! What a comparison found.
+
+use crate::lent::Mismatch;
+use crate::plan::Plan;
+use std::fmt::{self, Display, Formatter};
+
+/// The numbers that an answer can have: 0 and the refusals 1 to 15.
+pub const NUMBERS: usize = 16;
+
+/// The names of the answers' numbers, as document 01 has them.
+pub const NAMES: [&str; NUMBERS] = [
+    "accepted",
+    "short sheet",
+    "wrong kind",
+    "bad body",
+    "left over",
+    "too many",
+    "no code",
+    "no such slot",
+    "no such target",
+    "open end",
+    "no room",
+    "state limit",
+    "work limit",
+    "unfilled slot",
+    "host over await",
+    "facts limit",
+];
+
+/// Size classes: a sheet is in the first whose bytes it does not reach.
+const SIZES: [(usize, &str); 5] = [
+    (64, "< 64 B"),
+    (256, "< 256 B"),
+    (4_096, "< 4 KiB"),
+    (65_536, "< 64 KiB"),
+    (usize::MAX, "larger"),
+];
+
+/// The longest sheet that is shown whole.
+const SHOWN: usize = 2_000;
+
+/// How many calls gave what, and the first that gave something else than expected.
+#[derive(Debug, Clone, Default)]
+pub struct Report {
+    /// The sheets that were tried.
+    pub sheets: u64,
+    /// The calls that were made with them.
+    pub calls: u64,
+    /// The calls by the number of their answer and the size of their sheet.
+    table: [[u64; SIZES.len()]; NUMBERS],
+    /// The first mismatch, made small.
+    pub failure: Option<Box<Failure>>,
+}
+
+/// A call that did not leave what was expected.
+#[derive(Debug, Clone)]
+pub struct Failure {
+    /// Where it came up.
+    pub found: String,
+    /// The length of the sheet with which it came up.
+    pub length: usize,
+    /// The smallest sheet that was found to fail.
+    pub sheet: Vec<u8>,
+    /// What the call was made with.
+    pub plan: Plan,
+    /// What differs.
+    pub mismatch: Mismatch,
+}
+
+impl Report {
+    /// Counts a call.
+    pub fn count(&mut self, number: u32, sheet_length: usize) {
+        let below = |&(bytes, _): &(usize, _)| sheet_length < bytes;
+        let size = SIZES.iter().position(below).expect("a size class");
+        self.table[number as usize][size] += 1;
+        self.calls += 1;
+    }
+
+    /// How many calls were answered with this number.
+    pub fn times(&self, number: u32) -> u64 {
+        self.table[number as usize].iter().sum()
+    }
+
+    /// Fails with the first mismatch, or if one of the numbers came up less often than
+    /// `least`.
+    ///
+    /// # Panics
+    ///
+    /// If so.
+    #[track_caller]
+    pub fn hold(&self, numbers: impl IntoIterator<Item = u32>, least: u64) {
+        if let Some(failure) = &self.failure {
+            panic!("{failure}");
+        }
+        for number in numbers {
+            let times = self.times(number);
+            assert!(times >= least, "{number} came up {times} times\n{self}");
+        }
+    }
+}
+
+impl Display for Report {
+    fn fmt(&self, f: &mut Formatter) -> fmt::Result {
+        let heads = SIZES.iter().map(|(_, name)| format!("{name:>10}"));
+        let heads: String = heads.collect();
+        writeln!(f, "{:<19}{heads}{:>11}", "answer", "all")?;
+        for (number, (row, name)) in self.table.iter().zip(NAMES).enumerate() {
+            let cells: String = row.iter().map(|calls| format!("{calls:>10}")).collect();
+            let all: u64 = row.iter().sum();
+            writeln!(f, "{number:>2} {name:<16}{cells}{all:>11}")?;
+        }
+        write!(f, "{} sheets, {} calls", self.sheets, self.calls)
+    }
+}
+
+impl Display for Failure {
+    fn fmt(&self, f: &mut Formatter) -> fmt::Result {
+        writeln!(
+            f,
+            "mismatch: {}, a sheet of {} bytes",
+            self.found, self.length
+        )?;
+        writeln!(f, "smallest failing sheet, {} bytes:", self.sheet.len())?;
+        writeln!(f, "{}", hex(&self.sheet))?;
+        writeln!(f, "called with {:?}", self.plan)?;
+        write!(f, "{}", self.mismatch)
+    }
+}
+
+/// A sheet in hexadecimal; of a long one, its first bytes.
+pub fn hex(sheet: &[u8]) -> String {
+    let shown = &sheet[..sheet.len().min(SHOWN)];
+    let bytes: Vec<String> = shown.iter().map(|byte| format!("{byte:02X}")).collect();
+    let more = if shown.len() < sheet.len() {
+        format!(" .. ({} bytes)", sheet.len())
+    } else {
+        String::new()
+    };
+    bytes.join(" ") + &more
+}
