@@ -10,7 +10,7 @@ use lib.Bits.{bitAnd, bitOr, bitXor}
 use lib.Dec.{eqb}
 use lib.ListN.{length, take, drop, getD, set, replicate, length-set, length-drop, length-replicate, getD-replicate}
 use lib.Seq.{take-all, take-suc, length-take-le, getD-drop, paste, paste-zero, paste-suc}
-use Rattle.bitset.specs.Sets.{zipped, same, common}
+use Rattle.bitset.specs.Sets.{zipped, meet, same, common, within}
 use Rattle.bitset.specs.Rows.{row, patched, Apart}
 use Rattle.bitset.proofs.Digits.{differs, or-zero}
 use Rattle.bitset.proofs.SetLaws.{length-zipped, getD-zipped}
@@ -185,3 +185,46 @@ module _ {a : List ℕ} {i j w k both : ℕ} (shared : Shared a i j w k both) wh
   shared-all h =
       let e : k ≡ w = omega (arith, shared .below) in
       shared .is ∙ ap (λ (n : ℕ). common (row a i n) (row a j n)) e
+
+-- ---- a loop that looks for a slot that the second row lacks
+zipped-snoc : (f : ℕ → ℕ → ℕ) (xs ys : List ℕ) (x y : ℕ) → length xs ≡ length ys
+    → zipped f (xs ++ x ∷ []) (ys ++ y ∷ []) ≡ zipped f xs ys ++ (f x y ∷ [])
+unfolding zipped
+zipped-snoc f [] [] x y h = refl
+zipped-snoc f [] (b ∷ ys) x y h = absurd (omega arith)
+zipped-snoc f (a ∷ xs) [] x y h = absurd (omega arith)
+zipped-snoc f (a ∷ xs) (b ∷ ys) x y h = ap (λ (l : List ℕ). f a b ∷ l) (zipped-snoc f xs ys x y (omega arith))
+
+within-snoc : (xs ys : List ℕ) (x y : ℕ) → length xs ≡ length ys
+    → within (xs ++ x ∷ []) (ys ++ y ∷ []) ≡ (within xs ys && eqb (bitAnd x y) x)
+within-snoc xs ys x y h =
+    ap (λ (l : List ℕ). same l (xs ++ x ∷ [])) (zipped-snoc bitAnd xs ys x y h)
+    ∙ same-snoc (meet xs ys) xs (bitAnd x y) x (length-zipped bitAnd xs ys)
+
+-- after k turns of w: what was gathered is 0 exactly if the words so far of the row at j have all slots of those of the row at i
+pub record Covered (a : List ℕ) (i j w k lacking : ℕ) : Type 0 where
+  pub below : k ≤ w
+  pub is : eqb lacking 0 ≡ within (row a i k) (row a j k)
+
+pub covered-none : {a : List ℕ} {i j w : ℕ} → Covered a i j w 0 0
+unfolding zipped same row
+covered-none = record { below = omega arith; is = refl }
+
+module _ {a : List ℕ} {i j w k lacking : ℕ} (covered : Covered a i j w k lacking) where
+  pub covered-more : i + w ≤ length a → j + w ≤ length a → k < w
+      → Covered a i j w (k + 1) (bitOr lacking (bitXor (bitAnd (getD a (i + k) 0) (getD a (j + k) 0)) (getD a (i + k) 0)))
+  covered-more hi hj turn =
+      let x : ℕ = getD a (i + k) 0 in
+      let y : ℕ = getD a (j + k) 0 in
+      record {
+        below = omega arith;
+        is =
+            differs lacking (bitAnd x y) x ∙ ap (λ (t : Bool). t && eqb (bitAnd x y) x) (covered .is)
+            ∙ sym (ap₂ within (row-more a i k (omega arith)) (row-more a j k (omega arith))
+            ∙ within-snoc (row a i k) (row a j k) x y (length-row a i k (omega arith) ∙ sym (length-row a j k (omega arith))));
+      }
+
+  pub covered-all : w ≤ k → eqb lacking 0 ≡ within (row a i w) (row a j w)
+  covered-all h =
+      let e : k ≡ w = omega (arith, covered .below) in
+      covered .is ∙ ap (λ (n : ℕ). within (row a i n) (row a j n)) e

@@ -12,7 +12,7 @@ use lib.ListN.{length, getD, set, replicate, length-set, length-replicate, getD-
 use lib.Pow.{pow-lt}
 use lib.Seq.{getD-set-same, getD-set-other, ext-getD}
 use borrow.Author.Tests.{eq-eqb, ne-eqb, eqb-true}
-use Rattle.bitset.specs.Sets.{ones, member, inserted, removed, zipped, meet, join, difference, same, common, Words}
+use Rattle.bitset.specs.Sets.{ones, member, inserted, removed, zipped, meet, join, difference, same, common, within, Words}
 use Rattle.bitset.proofs.Digits.{bit, bit-and, bit-or, bit-not, bit-zero, bit-ones, bit-pow, bits-tell}
 
 -- ---- past the end, and rows of one word repeated
@@ -218,6 +218,15 @@ module _ {w : ℕ} {xs ys : List ℕ} (hx : Words w xs) (hy : Words w ys) where
 
   pub same-members : (same xs ys ≡ true) ↔ ((i : ℕ) → i < 64 * w → member xs i ≡ member ys i)
   same-members = (λ e. same-exact .0 (same-yes xs ys e), λ h. rw (same-exact .1 h) (same-refl ys))
+
+-- ---- a set within another
+pub within-member : (xs ys : List ℕ) → within xs ys ≡ true → (i : ℕ) → member xs i ≡ true → member ys i ≡ true
+within-member xs ys e i h =
+    go (member xs i) (member ys i) h (sym (member-meet xs ys i) ∙ ap (λ (l : List ℕ). member l i) (same-yes (meet xs ys) xs e))
+  where
+    go : (x y : Bool) → x ≡ true → (x && y) ≡ x → y ≡ true
+    go true y h q = q
+    go false y h q = absurd (false≢true h)
 
 -- ---- a common member
 -- the word that has one

@@ -58,6 +58,10 @@ common [] ys = false
 common (x ∷ xs) [] = false
 common (x ∷ xs) (y ∷ ys) = not (eqb (bitAnd x y) 0) || common xs ys
 
+-- whether each slot of the first set is in the second
+abbrev pub within : List ℕ → List ℕ → Bool
+within xs ys = same (meet xs ys) xs
+
 -- a set of w words: each fits 64 bits, as the words of a slice do
 pub record Words (w : ℕ) (ws : List ℕ) : Type 0 where
   pub long : length ws ≡ w

@@ -5,7 +5,7 @@
 ghost use mathlib.Core.Path.{_≡_};
 ghost use Prim.Native.Nat.{_+_, _≤_, _<_, _/_};
 ghost use lib.ListN.{length, drop, replicate};
-ghost use Rattle.bitset.specs.Sets.{common, member, meet, join, difference, same};
+ghost use Rattle.bitset.specs.Sets.{common, within, member, meet, join, difference, same};
 ghost use Rattle.bitset.specs.Rows.{row, patched, insertedAt, removedAt, Apart};
 
 // Whether the slot is in the set that begins at base: `contains` of flow.rs.
@@ -142,4 +142,18 @@ pub fn common(a: &[u64], i: usize, j: usize, w: usize) -> bool
         k += 1;
     }
     both != 0
+}
+
+// Whether each slot of the row at i is in the row at j.
+pub fn within(a: &[u64], i: usize, j: usize, w: usize) -> bool
+    requires { ⌜ (i + w ≤ length (now a)) × (j + w ≤ length (now a)) ⌝ }
+    ensures { λ r. ⌜ r ≡ within (row (now (a .entry)) i w) (row (now (a .entry)) j w) ⌝ }
+{
+    let mut lacking = 0;
+    let mut k = 0;
+    while k < w {
+        lacking |= (a[i + k] & a[j + k]) ^ a[i + k];
+        k += 1;
+    }
+    lacking == 0
 }

@@ -8,7 +8,8 @@ use native.Mathlib.Omega.{arith}
 use lib.ListN.{length, getD}
 use denote.Enum.Declared.{tagOf}
 use Rattle.dataflow.specs.Lists.{pick, range, keep}
-use Rattle.dataflow.specs.Code.{body}
+use Rattle.dataflow.specs.Blocks.{uses}
+use Rattle.dataflow.specs.Code.{program, body}
 use Rattle.dataflow.specs.Results.{reachable, initEntry, liveExit}
 use Rattle.dataflow.specs.Verdict.{awaitAt}
 use Rattle.budget.specs.declared.FlowBudget.{FlowBudget}
@@ -30,7 +31,7 @@ use Rattle.points.specs.declared.awaits.Points.the-variants.{Passed, Refused}
 use Rattle.points.specs.declared.reads.Reads.{Reads}
 use Rattle.points.specs.declared.reads.Reads.the-variants.{Filled, Unfilled, Over}
 use Rattle.points.proofs.reads.Reads.{the-type}
-use Rattle.points.specs.Rows.{Coded, awaitsAmong, readsOf, pointsOf, Entries, ReadsChecked, AwaitsChecked, ChargedBack}
+use Rattle.points.specs.Rows.{Coded, awaitsAmong, readsOf, pointsOf, Entries, Used, ReadsChecked, AwaitsChecked, ChargedBack}
 use Rattle.points.proofs.ChargeLaws.{none-run}
 use Rattle.check_points.specs.CheckPoints.{codeOf, Solved, factsOf, Facing, refusedBy, raisedTo, Counted, FoundChecked, BlockChecked}
 use Rattle.check_points.proofs.SolvedLaws.{RunningOnly, running-then, word-kept, solved-kept, reads-others, gather-others}
@@ -198,6 +199,14 @@ entered {s} {x} {y} {c} {place} w u room fits more fit h e {m} g {start} {end} p
 
     kept : Solved s x y m (sets y u)
     kept = solved-kept only (h .solved)
+
+-- the row of its uses holds what its instructions use
+pub entered-used : {s : List ℕ} {x : Script} {y : Layout} {c place start end : ℕ} {m₀ m t : Mem} → Entered s x y c place start end m₀ m t
+    → Used (codeOf s) (parameterIn (partsOf s)) c start end m
+entered-used {s} {c = c} h = record {
+  are = λ i. h .solved .flows .uses-are c (h .inside) i
+      ∙ ap (λ (is : List ℕ). uses (program (codeOf s) (parameterIn (partsOf s))) i false false is) (h .span .is);
+}
 
 -- the run of a reachable block: its reads, then its awaits
 run-reached : (s : List ℕ) (x : Script) (y : Layout) (l : Limits) (b : FlowBudget) (c : ℕ) → reachable (codeOf s) c ≡ true

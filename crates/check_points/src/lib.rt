@@ -86,7 +86,7 @@ fn check_reached(
     transfer::gather(s, t, y, Direction::Initialization, block);
     let start = memory::scratch::get(s, y, layout::START, block) as usize;
     let end = memory::scratch::get(s, y, layout::END, block) as usize;
-    let r = reads::check_reads(sheet, s, script, y, start, end, limits, budget);
+    let r = reads::block_reads(sheet, s, script, y, block, start, end, limits, budget);
     let Reads::Filled(found, left) = r else {
         return refused(r);
     };

@@ -4,7 +4,7 @@ ghost use mathlib.Core.Path.{_≡_};
 ghost use mathlib.Core.List.{_∷_};
 ghost use Prim.Native.Nat.{_+_, _*_, _≤_, _<_};
 ghost use lib.ListN.{length, replicate};
-ghost use Rattle.bitset.specs.Sets.{meet, join, difference, same, common};
+ghost use Rattle.bitset.specs.Sets.{meet, join, difference, same, common, within};
 ghost use Rattle.memory.specs.Cells.{cell, storeCell};
 ghost use Rattle.memory.specs.Scratch.{scratch, Room, Row};
 ghost use Rattle.memory.specs.Sets.{sets, SetsRoom, SetsRow, AwaitEntry};
@@ -97,6 +97,15 @@ pub fn common(s: &[u64], y: Layout, d: usize, k: usize) -> bool
 {
     let w = y.words;
     bitset::common(s, y.scratch_start(d), y.scratch_start(k), w)
+}
+
+// Whether each slot of row d of scratch is in row k of scratch.
+pub fn within(s: &[u64], y: Layout, d: usize, k: usize) -> bool
+    requires { ⌜ Room y (length (now s)) × Row y d × Row y k ⌝ }
+    ensures { λ r. ⌜ r ≡ within (cell (scratch y (now (s .entry))) d) (cell (scratch y (now (s .entry))) k) ⌝ }
+{
+    let w = y.words;
+    bitset::within(s, y.scratch_start(d), y.scratch_start(k), w)
 }
 
 // The entry k of an await becomes its instruction and row d of scratch.

@@ -3,6 +3,7 @@ pub mod SlotLaws
 pub mod AwaitLaws
 pub mod MeansLaws
 pub mod ReadLaws
+pub mod FrontLaws
 pub mod InstructionLaws
 pub mod BackwardLaws
 pub mod ChargeLaws

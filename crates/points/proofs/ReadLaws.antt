@@ -72,7 +72,7 @@ kept-both f (x ∷ a) b = go (f x) (kept-both f a b)
     go false e = e
 
 -- the awaits up to pc, and the one there
-awaits-more : (code : List Instruction) (start pc k : ℕ) → start ≤ pc → awaitAt code pc ≡ isAwait k
+pub awaits-more : (code : List Instruction) (start pc k : ℕ) → start ≤ pc → awaitAt code pc ≡ isAwait k
     → awaitsAmong code start (pc + 1) ≡ awaitsAmong code start pc + awaitCount k
 awaits-more code start pc k h e =
     ap (λ (l : List ℕ). length (keep (awaitAt code) l)) (range-more start pc h)

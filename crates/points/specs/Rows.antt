@@ -1,12 +1,13 @@
 -- `check_points` over the words: rows as sets, and what each function does.
 use mathlib.Core.Path.{_≡_}
-use mathlib.Core.Bool.{Bool}
+use mathlib.Core.Bool.{Bool, false}
 use mathlib.Core.List.{List, [], _∷_}
 use Prim.Native.Nat.{ℕ, _+_, _*_, _-_, _≤_, _<_}
-use lib.ListN.{length, getD}
-use Rattle.bitset.specs.Sets.{common}
+use lib.ListN.{length}
+use Rattle.bitset.specs.Sets.{member, common}
 use Rattle.dataflow.specs.Lists.{pick, range, keep}
 use Rattle.dataflow.specs.Analyses.{liveTransfer}
+use Rattle.dataflow.specs.Blocks.{uses}
 use Rattle.dataflow.specs.Code.{Instruction, program}
 use Rattle.dataflow.specs.Verdict.{awaitAt}
 use Rattle.budget.specs.declared.FlowBudget.{FlowBudget}
@@ -14,7 +15,7 @@ use Rattle.budget.specs.declared.Limits.{Limits}
 use Rattle.format.specs.declared.refusal.Refusal.the-variants.{WorkLimit, UnfilledSlot, HostOverAwait}
 use Rattle.budget.specs.Budget.{charged, retained, factsBytes}
 use Rattle.memory.specs.Cells.{Mem, cell, word, storeCell}
-use Rattle.memory.specs.Names.{costCell, offsetCell, stateRow, liveStateRow, hostsRow}
+use Rattle.memory.specs.Names.{costCell, offsetCell, usesRow, stateRow, liveStateRow, hostsRow}
 use Rattle.memory.specs.declared.layout.Layout.{Layout}
 use Rattle.sheet.specs.declared.script.Script.{Script}
 use Rattle.sheet.specs.Decode.{partsOf}
@@ -55,6 +56,20 @@ pub record ReadsChecked (code : List Instruction) (parameter : ℕ → Bool) (y 
   pub answer : (f : ℕ → Bool) → Means (y .words) (cell m (stateRow (y .blocks))) f → readsOf r ≡ readsRun code parameter l f (range start (end - start)) b
   pub counted : (n : ℕ) (left : FlowBudget) → r ≡ Filled n left → n ≡ awaitsAmong code start end
   pub others : (k : ℕ) → (k ≡ stateRow (y .blocks) → ⊥) → cell m′ k ≡ cell m k
+
+-- the row of a block's uses holds what the instructions from start to end use: `graph`'s `uses`
+pub record Used (code : List Instruction) (parameter : ℕ → Bool) (c start end : ℕ) (m : Mem) : Type 0 where
+  pub are : (i : ℕ) → member (cell m (usesRow c)) i ≡ uses (program code parameter) i false false (range start (end - start))
+
+-- the costs of a list charged one by one, from the front
+unfoldable pub frontRun : (ℕ → ℕ) → Limits → List ℕ → FlowBudget → Checking
+frontRun cost l [] b = on b
+frontRun cost l (i ∷ is) b = ifPaid (charged l b (cost i ∷ [])) (frontRun cost l is)
+
+-- what `charge_reads` does with the instructions from start to end
+pub record ReadsCharged (code : List Instruction) (l : Limits) (b : FlowBudget) (start end : ℕ) (r : Reads) : Type 0 where
+  pub answer : readsOf r ≡ frontRun (costAt code) l (range start (end - start)) b
+  pub counted : (n : ℕ) (left : FlowBudget) → r ≡ Filled n left → n ≡ awaitsAmong code start end
 
 -- an await by rows: the slot count is charged, then 14 if the rows have a slot in common, then its facts are retained, then 15
 unfoldable pub awaitRows : Layout → Limits → ℕ → Mem → FlowBudget → Checking

@@ -9,14 +9,14 @@ use memory::layout::Layout;
 use operands::kinds;
 use sheet::script::Script;
 ghost use mathlib.Core.Path.{_≡_};
-ghost use Prim.Native.Nat.{_≤_};
+ghost use Prim.Native.Nat.{_≤_, _<_};
 ghost use lib.ListN.{length};
 ghost use Rattle.budget.specs.Budget.{budgetOf};
 ghost use Rattle.memory.specs.Scratch.{scratch, Room};
 ghost use Rattle.sheet.specs.Decode.{partsOf};
 ghost use Rattle.script.specs.Script.{flowCode, parameterIn};
 ghost use Rattle.points.specs.Slots.{awaitCount};
-ghost use Rattle.points.specs.Rows.{Coded, ReadsChecked};
+ghost use Rattle.points.specs.Rows.{Coded, Used, ReadsCharged, ReadsChecked};
 
 // All reads are filled, with how many awaits there are; or one is not; or a charge crossed the limit.
 pub enum Reads {
@@ -25,8 +25,62 @@ pub enum Reads {
     Over(FlowBudget),
 }
 
+// The reads of a block, the instructions from start to end. Where what it uses is initialized at its entry, every read is filled, and only the charges
+// are left; else the first unfilled read is looked for.
+pub fn block_reads(
+    sheet: &[u8],
+    s: &mut [u64],
+    script: Script,
+    y: Layout,
+    block: usize,
+    start: usize,
+    end: usize,
+    limits: Limits,
+    budget: FlowBudget,
+) -> Reads
+    requires { ⌜ Room y (length (now s)) × (Coded (now sheet) script y (scratch y (now s))) × (block < y .blocks) × (Used (flowCode (partsOf (now sheet))) (parameterIn (partsOf (now sheet))) block start end (scratch y (now s))) × (start ≤ end) × (end ≤ y .instructions) ⌝ }
+    ensures { λ r. ⌜ ReadsChecked (flowCode (partsOf (now (sheet .entry)))) (parameterIn (partsOf (now (sheet .entry)))) y limits budget start end (scratch y (now (s .entry))) (scratch y (now (s .exit))) r ⌝ }
+{
+    if memory::rows::within(s, y, y.uses(block), y.state()) {
+        return charge_reads(sheet, s, script, y, start, end, limits, budget);
+    }
+    check_reads(sheet, s, script, y, start, end, limits, budget)
+}
+
+// The costs of the instructions from start to end, in order, and how many awaits there are.
+fn charge_reads(
+    sheet: &[u8],
+    s: &[u64],
+    script: Script,
+    y: Layout,
+    start: usize,
+    end: usize,
+    limits: Limits,
+    budget: FlowBudget,
+) -> Reads
+    requires { ⌜ Room y (length (now s)) × (Coded (now sheet) script y (scratch y (now s))) × (start ≤ end) × (end ≤ y .instructions) ⌝ }
+    ensures { λ r. ⌜ ReadsCharged (flowCode (partsOf (now (sheet .entry)))) limits budget start end r ⌝ }
+{
+    let mut left = budget;
+    let mut awaits = 0;
+    let mut pc = start;
+    while pc < end {
+        let cost = memory::scratch::get(s, y, layout::COST, pc);
+        let paid = left.charge(cost, limits);
+        let Charged::Ok(b) = paid else {
+            return over(paid);
+        };
+        left = b;
+        let at = memory::scratch::get(s, y, layout::OFFSET, pc) as usize;
+        let p = placed::instruction_at(sheet, at);
+        awaits += await_count(p.instruction.pattern.kind);
+        pc += 1;
+    }
+    Reads::Filled(awaits, left)
+}
+
 // The instructions from start to end in order; the first unfilled read leaves both loops.
-pub fn check_reads(
+fn check_reads(
     sheet: &[u8],
     s: &mut [u64],
     script: Script,

@@ -7,7 +7,7 @@ use borrow.Author.Needs.{needs}
 use Rattle.memory.specs.Scratch.{scratch, Room}
 use Rattle.memory.proofs.ScratchLaws.{place-blocks}
 use Rattle.check_points.proofs.SolvedLaws.{solved-connected}
-use Rattle.check_points.proofs.CheckedLaws.{not-filled, entered, reads-counted, reads-refused, reads-then}
+use Rattle.check_points.proofs.CheckedLaws.{not-filled, entered, entered-used, reads-counted, reads-refused, reads-then}
 use Rattle.check_points.proofs.check_reached.Statement.{statement}
 use Rattle.check_points.proofs.check_reached.Tie as tie
 
@@ -32,14 +32,14 @@ get-requires-2 c κs =
       place-blocks (e .args .y) 5 (e .args .block) (omega arith) (omega arith) (e .pre .2 .inside),
     )
 
-check-reads-requires : tie.Need-check-reads-requires
-check-reads-requires c κs =
+block-reads-requires : tie.Need-block-reads-requires
+block-reads-requires c κs =
     let g = c .before .before .before .before .before .before .before in
     let e = g .before .before .before .before .before .before in
     let en = entered (now (e .args .s)) (now (e .args .t)) (e .pre .0) (λ i. omega (arith, g .before .before .before .before .slice-known .given i)) (e .pre .1)
     (λ i. omega (arith, g .before .before .before .slice-known2 .given i)) (e .pre .2) (e .pre .3) (g .gather .ensures) (c .before .before .before .get .ensures)
     (c .before .get2 .ensures) in
-    (subst (λ (n : ℕ). Room (e .args .y) n) (sym (g .gather .kept .0)) (e .pre .0), en .solved .coded, en .span .ordered, en .span .inside)
+    (subst (λ (n : ℕ). Room (e .args .y) n) (sym (g .gather .kept .0)) (e .pre .0), en .solved .coded, en .inside, entered-used en, en .span .ordered, en .span .inside)
 
 enum-known-r : tie.Need-enum-known-r
 enum-known-r c = search needs
@@ -50,7 +50,7 @@ refused-requires c κs = search needs
 same-length : tie.Need-same-length
 same-length c =
     let q = c .before .before .before .before in
-    q .check-reads .kept .1 .0 ∙ q .before .before .before .before .before .before .before .before .gather .kept .0
+    q .block-reads .kept .1 .0 ∙ q .before .before .before .before .before .before .before .before .gather .kept .0
 
 same-length-2 : tie.Need-same-length-2
 same-length-2 c = search needs
@@ -63,7 +63,7 @@ returns c =
     let en = entered (now (e .args .s)) (now (e .args .t)) (e .pre .0) (λ i. omega (arith, g .before .before .before .before .slice-known .given i)) (e .pre .1)
     (λ i. omega (arith, g .before .before .before .slice-known2 .given i)) (e .pre .2) (e .pre .3) (g .gather .ensures) (q .before .before .before .before .get .ensures)
     (q .before .before .get2 .ensures) in
-    reads-refused en (q .check-reads .ensures) (not-filled _ (c .before .match .keys2)) (c .refused .ensures)
+    reads-refused en (q .block-reads .ensures) (not-filled _ (c .before .match .keys2)) (c .refused .ensures)
 
 check-found-requires : tie.Need-check-found-requires
 check-found-requires c κs =
@@ -73,15 +73,15 @@ check-found-requires c κs =
     let en = entered (now (e .args .s)) (now (e .args .t)) (e .pre .0) (λ i. omega (arith, g .before .before .before .before .slice-known .given i)) (e .pre .1)
     (λ i. omega (arith, g .before .before .before .slice-known2 .given i)) (e .pre .2) (e .pre .3) (g .gather .ensures) (q .before .before .before .before .get .ensures)
     (q .before .before .get2 .ensures) in (
-      subst (λ (n : ℕ). Room (e .args .y) n) (sym (q .check-reads .kept .1 .0 ∙ g .gather .kept .0)) (e .pre .0),
+      subst (λ (n : ℕ). Room (e .args .y) n) (sym (q .block-reads .kept .1 .0 ∙ g .gather .kept .0)) (e .pre .0),
       e .pre .1,
-      reads-counted {m₁ = scratch (e .args .y) (q .check-reads .last .1 .0)} en (q .check-reads .ensures) (c .before .before .before .r .given .1),
+      reads-counted {m₁ = scratch (e .args .y) (q .block-reads .last .1 .0)} en (q .block-reads .ensures) (c .before .before .before .r .given .1),
     )
 
 same-length-3 : tie.Need-same-length-3
 same-length-3 c =
     let q = c .before .before .before .before .before .before .before .before .before .before .before .before in
-    c .before .before .before .before .check-found .kept .1 .0 ∙ q .check-reads .kept .1 .0 ∙ q .before .before .before .before .before .before .before .before .gather .kept .0
+    c .before .before .before .before .check-found .kept .1 .0 ∙ q .block-reads .kept .1 .0 ∙ q .before .before .before .before .before .before .before .before .gather .kept .0
 
 same-length-4 : tie.Need-same-length-4
 same-length-4 c = c .before .before .before .before .check-found .kept .1 .1 .0
@@ -94,7 +94,7 @@ returns-2 c =
     let en = entered (now (e .args .s)) (now (e .args .t)) (e .pre .0) (λ i. omega (arith, g .before .before .before .before .slice-known .given i)) (e .pre .1)
     (λ i. omega (arith, g .before .before .before .slice-known2 .given i)) (e .pre .2) (e .pre .3) (g .gather .ensures) (q .before .before .before .before .get .ensures)
     (q .before .before .get2 .ensures) in
-    reads-then {m₁ = scratch (e .args .y) (q .check-reads .last .1 .0)} en (q .check-reads .ensures) (c .before .before .before .before .before .before .before .before .r .given .1)
+    reads-then {m₁ = scratch (e .args .y) (q .block-reads .last .1 .0)} en (q .block-reads .ensures) (c .before .before .before .before .before .before .before .before .r .given .1)
     (c .before .before .before .before .check-found .ensures)
 
 pub check-reached-spec : {M : Type 1} → statement M
@@ -104,7 +104,7 @@ check-reached-spec =
     gather-requires
     get-requires
     get-requires-2
-    check-reads-requires
+    block-reads-requires
     enum-known-r
     refused-requires
     same-length

@@ -1,0 +1,135 @@
+-- `points::reads::charge_reads` meets its contract: what the charges have come to at pc. Assumes nothing.
+use mathlib.Core.Path.{refl}
+use Prim.Native.Nat.{_-_, _≤_, _<_}
+use native.Mathlib.Omega.{arith}
+use denote.Ref.{now}
+use Rattle.memory.specs.Scratch.{scratch}
+use Rattle.memory.proofs.ScratchLaws.{place-instructions}
+use Rattle.script.specs.Script.{flowCode}
+use Rattle.sheet.specs.Decode.{partsOf}
+use Rattle.points.proofs.ReadLaws.{noted-cost, noted-stands, noted-read, counted-once}
+use Rattle.points.proofs.FrontLaws.{Charging, charging-none, charging-more, charges-made, charges-over}
+use borrow.Author.Needs.{needs}
+use Rattle.points.proofs.reads.charge_reads.Statement.{statement}
+use Rattle.points.proofs.reads.charge_reads.Tie as tie
+
+abbrev Inv-loop : tie.InvT-loop
+Inv-loop sheet s y start end limits left₀ awaits₀ pc₀ left awaits pc =
+    (start ≤ pc) × (pc ≤ end) × Charging (flowCode (partsOf sheet)) limits left₀ left start end pc awaits
+
+abbrev μ-loop : tie.MeasureT-loop
+μ-loop sheet s y start end limits left₀ awaits₀ pc₀ left awaits pc = end - pc
+
+loop-holds : tie.Need-loop-holds Inv-loop μ-loop
+loop-holds c = (omega arith, c .before .before .pre .2, charging-none _ _ _ _ _)
+
+get-requires : tie.Need-get-requires Inv-loop μ-loop
+get-requires c κs =
+    let e = c .before .before .before .before in
+    (e .pre .0, place-instructions (e .args .y) 3 (c .before .loop .pc) (omega arith) (omega (arith, c .loop-test .taken, e .pre .3)))
+
+charge-requires : tie.Need-charge-requires Inv-loop μ-loop
+charge-requires c κs = search needs
+
+enum-known-paid : tie.Need-enum-known-paid Inv-loop μ-loop
+enum-known-paid c = search needs
+
+enum-told : tie.Need-enum-told Inv-loop μ-loop
+enum-told c = search needs
+
+over-requires : tie.Need-over-requires Inv-loop μ-loop
+over-requires c κs = search needs
+
+returns : tie.Need-returns Inv-loop μ-loop
+returns c =
+    let paid = c .before .before .before in
+    let t = paid .before .before in
+    let loop = t .before .loop in
+    let e = t .before .before .before .before in
+    let a = e .args in
+    let inside : loop .pc < a .y .instructions = omega (arith, t .loop-test .taken, e .pre .3) in
+    charges-over (flowCode (partsOf (now (a .sheet)))) (a .limits) (a .budget) (a .start) (a .end) (loop .left) (loop .pc) (loop .awaits) (loop .inv .2)
+    (t .loop-test .taken) _
+    (noted-cost (now (a .sheet)) (a .script) (a .y) (scratch (a .y) (now (a .s))) (e .pre .1) (loop .pc) inside _ (paid .before .get .ensures)) _
+    (paid .charge .ensures) _ _ (c .before .enum-told .given .1) (c .over .ensures)
+
+get-requires-2 : tie.Need-get-requires-2 Inv-loop μ-loop
+get-requires-2 c κs =
+    let t = c .before .before .before .before .before in
+    let e = t .before .before .before .before in
+    (e .pre .0, place-instructions (e .args .y) 0 (t .before .loop .pc) (omega arith) (omega (arith, t .loop-test .taken, e .pre .3)))
+
+instruction-at-requires : tie.Need-instruction-at-requires Inv-loop μ-loop
+instruction-at-requires c κs =
+    let t = c .before .before .before .before .before .before in
+    let e = t .before .before .before .before in
+    let a = e .args in
+    noted-stands (now (a .sheet)) (a .script) (a .y) (scratch (a .y) (now (a .s))) (e .pre .1) (t .before .loop .pc)
+    (omega (arith, t .loop-test .taken, e .pre .3)) _ (c .get2 .ensures)
+
+await-count-requires : tie.Need-await-count-requires Inv-loop μ-loop
+await-count-requires c κs = search needs
+
+add-awaits : tie.Need-add-awaits Inv-loop μ-loop
+add-awaits c =
+    let t = c .before .before .before .before .before .before .before .before in
+    let e = t .before .before .before .before in
+    omega (arith, t .before .loop .inv .2 .few, counted-once _ _ (c .await-count .ensures), t .loop-test .taken, e .pre .3, e .pre .0 .instructions)
+
+add-pc : tie.Need-add-pc Inv-loop μ-loop
+add-pc c =
+    let t = c .before .before .before .before .before .before .before .before in
+    let e = t .before .before .before .before in
+    omega (arith, t .loop-test .taken, e .pre .3, e .pre .0 .instructions)
+
+loop-less : tie.Need-loop-less Inv-loop μ-loop
+loop-less c = search needs
+
+loop-again : tie.Need-loop-again Inv-loop μ-loop
+loop-again c =
+    let met = c .before .before .before .before in
+    let paid = met .before .before in
+    let t = paid .before .before in
+    let loop = t .before .loop in
+    let e = t .before .before .before .before in
+    let a = e .args in
+    let m = scratch (a .y) (now (a .s)) in
+    let inside : loop .pc < a .y .instructions = omega (arith, t .loop-test .taken, e .pre .3) in (
+      omega (arith, loop .inv .0),
+      omega (arith, t .loop-test .taken),
+      charging-more (flowCode (partsOf (now (a .sheet)))) (a .limits) (a .budget) (a .start) (a .end) (loop .left) (loop .pc) (loop .awaits)
+          (loop .inv .2) (t .loop-test .taken) _
+          (noted-cost (now (a .sheet)) (a .script) (a .y) m (e .pre .1) (loop .pc) inside _ (paid .before .get .ensures)) _ (paid .charge .ensures) _
+          (met .paid .given .1) _ _
+          (noted-read (now (a .sheet)) (a .script) (a .y) m (e .pre .1) (loop .pc) inside _ (c .before .before .get2 .ensures) _
+          (c .before .instruction-at .ensures) .await-is) (c .await-count .ensures) (loop .inv .0),
+    )
+
+returns-2 : tie.Need-returns-2 Inv-loop μ-loop
+returns-2 c =
+    let loop = c .before .loop in
+    let a = c .before .before .before .before .args in
+    charges-made (flowCode (partsOf (now (a .sheet)))) (a .limits) (a .budget) (a .start) (a .end) (loop .left) (loop .pc) (loop .awaits) (loop .inv .2)
+    (omega (arith, c .loop-test .left, loop .inv .1)) _ refl
+
+pub charge-reads-spec : {M : Type 1} → statement M
+charge-reads-spec =
+    tie.close
+    (tie.spec
+    Inv-loop
+    μ-loop
+    loop-holds
+    get-requires
+    charge-requires
+    enum-known-paid
+    enum-told
+    over-requires
+    returns
+    get-requires-2
+    instruction-at-requires
+    await-count-requires
+    add-awaits
+    add-pc
+    loop-less
+    loop-again
+    returns-2)
