@@ -56,26 +56,26 @@ answer-inside y awaits v h = omega (arith, h .room .fits, mul-le-mul-right (1 + 
 
 -- ---- `finish`
 
-module _ (id : ℕ) (j : Judged) (w v : List ℕ) where
+module _ (id : ℕ) (j : Judged) (v : List ℕ) where
   -- the judging accepted
-  pub finishes-on : (y : Layout) (awaits : ℕ) (left : FlowBudget) (w′ v′ : List ℕ) (r : Examined) → j ≡ judging.Accepted y awaits left
-      → r ≡ Accepted id y awaits left → w′ ≡ w → v′ ≡ cutAt (answerWords y awaits) v → Finishes id j w w′ v v′ r
-  finishes-on y awaits left w′ v′ r e er ew ev = record {
+  pub finishes-on : (y : Layout) (awaits : ℕ) (left : FlowBudget) (v′ : List ℕ) (r : Examined) → j ≡ judging.Accepted y awaits left
+      → r ≡ Accepted id y awaits left → v′ ≡ cutAt (answerWords y awaits) v → Finishes id j v v′ r
+  finishes-on y awaits left v′ r e er ev = record {
     answer = er ∙ ap (examinedBy id) (sym e);
     kept = λ z n b q.
         let a : z ≡ y = cc in
         let d : n ≡ awaits = cc in
-        (ew, ev ∙ ap₂ (λ (u : Layout) (k : ℕ). cutAt (answerWords u k) v) (sym a) (sym d));
+        ev ∙ ap₂ (λ (u : Layout) (k : ℕ). cutAt (answerWords u k) v) (sym a) (sym d);
     cleared = λ n b q. let o : _≡_ {A = ℕ} 0 1 = cc in absurd (omega arith);
   }
 
   -- it refused
-  pub finishes-refused : (n : Refusal) (left : FlowBudget) (w′ v′ : List ℕ) (r : Examined) → j ≡ judging.Refused n left → r ≡ Refused n id left
-      → w′ ≡ zeros w → v′ ≡ zeros v → Finishes id j w w′ v v′ r
-  finishes-refused n left w′ v′ r e er ew ev = record {
+  pub finishes-refused : (n : Refusal) (left : FlowBudget) (v′ : List ℕ) (r : Examined) → j ≡ judging.Refused n left → r ≡ Refused n id left
+      → v′ ≡ zeros v → Finishes id j v v′ r
+  finishes-refused n left v′ r e er ev = record {
     answer = er ∙ ap (examinedBy id) (sym e);
     kept = λ z k b q. let o : _≡_ {A = ℕ} 0 1 = cc in absurd (omega arith);
-    cleared = λ k b q. (ew, ev);
+    cleared = λ k b q. ev;
   }
 
 -- ---- `examine`
@@ -101,12 +101,11 @@ due-count s l n b id blocks awaits left (acceptance z g) = refl
 module _ (s : List ℕ) (l : Limits) (records : ℕ) (b : FlowBudget) (w v : List ℕ) (c : Checked) (checks : Checks s c) where
   -- the checks refuse
   pub examines-refused : (q : Refusal) (id : ℕ) (w′ v′ : List ℕ) (r : Examined) → c ≡ checking.Refused q id → r ≡ Refused q id b
-      → w′ ≡ zeros w → v′ ≡ zeros v → Examines s l records b w w′ v v′ r
+      → v′ ≡ zeros v → Examines s l records b w w′ v v′ r
   unfolding outcomeOf
-  examines-refused q id w′ v′ r ec er ew ev = record {
+  examines-refused q id w′ v′ r ec er ev = record {
     answer = ap outcomeIn er ∙ ap (afterChecks s l (lengthsOf w v records) b) (sym ec ∙ checks .answer);
     sets = ev ∙ ap (λ (z : Examined). setsAfter s (lengthsOf w v records) (outcomeIn z)) (sym er);
-    cleared = λ n i z e. ew;
     listing = λ i y awaits z e. let o : _≡_ {A = ℕ} 0 1 = cc in absurd (omega arith);
   }
 
@@ -156,43 +155,38 @@ module _ (s : List ℕ) (l : Limits) (records : ℕ) (b : FlowBudget) (w v : Lis
       pub finishing : Finishing j v₁
       finishing = record { acceptable = acceptable }
 
-      module _ (fit : (i : ℕ) → getD v₁ i 0 < 2 ^ 64) (long : length w₁ ≡ length w) (sets-long : length v₁ ≡ length v)
-          (w₂ v₂ : List ℕ) (r : Examined) (f : Finishes (x .id) j w₁ w₂ v₁ v₂ r) where
+      module _ (fit : (i : ℕ) → getD v₁ i 0 < 2 ^ 64) (long : length v₁ ≡ length v) (v₂ : List ℕ) (r : Examined)
+          (f : Finishes (x .id) j v₁ v₂ r) where
         answer-is : outcomeIn r ≡ outcomeOf s l (lengthsOf w v records) b
         answer-is = ap outcomeIn (f .answer) ∙ outcome-same (x .id) j ∙ h .answer ∙ judged-is
 
-        accepted-on : (y : Layout) (awaits : ℕ) (left : FlowBudget) → j ≡ judging.Accepted y awaits left → Examines s l records b w w₂ v v₂ r
+        accepted-on : (y : Layout) (awaits : ℕ) (left : FlowBudget) → j ≡ judging.Accepted y awaits left → Examines s l records b w w₁ v v₂ r
         accepted-on y awaits left e =
-            let k = f .kept y awaits left e in
             let er : r ≡ Accepted (x .id) y awaits left = f .answer ∙ ap (examinedBy (x .id)) e in
             record {
               answer = answer-is;
-              sets = k .1
+              sets = f .kept y awaits left e
                   ∙ cut-padded v₁ (setWords s ((partsOf s .slots + 63) / 64) (y .blocks)) (answerWords y awaits) (length v)
-                  (answer-inside y awaits v₁ (acceptable y awaits left e)) sets-long (answer-there y awaits left e fit)
+                  (answer-inside y awaits v₁ (acceptable y awaits left e)) long (answer-there y awaits left e fit)
                   ∙ ap (λ (z : Examined). setsAfter s (lengthsOf w v records) (outcomeIn z)) (sym er);
-              cleared = λ q id z p. let o : _≡_ {A = ℕ} 0 1 = cc in absurd (omega arith);
               listing = λ id z n q p.
                   let a : y ≡ z = cc in
-                  subst (Listing s records w₂) a
-                  (subst (λ (u : List ℕ). Listing s records u y) (sym (k .0)) (listing s x _ w₁ v₁ y (holds y awaits left e)));
+                  subst (Listing s records w₁) a (listing s x _ w₁ v₁ y (holds y awaits left e));
             }
 
-        refused-on : (q : Refusal) (left : FlowBudget) → j ≡ judging.Refused q left → Examines s l records b w w₂ v v₂ r
+        refused-on : (q : Refusal) (left : FlowBudget) → j ≡ judging.Refused q left → Examines s l records b w w₁ v v₂ r
         refused-on q left e =
-            let k = f .cleared q left e in
             let er : r ≡ Refused q (x .id) left = f .answer ∙ ap (examinedBy (x .id)) e in
             record {
               answer = answer-is;
-              sets = k .1 ∙ ap (λ (n : ℕ). replicate n 0) sets-long
+              sets = f .cleared q left e ∙ ap (λ (n : ℕ). replicate n 0) long
                   ∙ ap (λ (z : Examined). setsAfter s (lengthsOf w v records) (outcomeIn z)) (sym er);
-              cleared = λ n id z p. k .0 ∙ ap (λ (i : ℕ). replicate i 0) long;
               listing = λ id y n z p. let o : _≡_ {A = ℕ} 0 1 = cc in absurd (omega arith);
             }
 
-        pub examines-on : Examines s l records b w w₂ v v₂ r
+        pub examines-on : Examines s l records b w w₁ v v₂ r
         examines-on = go j refl
           where
-            go : (i : Judged) → j ≡ i → Examines s l records b w w₂ v v₂ r
+            go : (i : Judged) → j ≡ i → Examines s l records b w w₁ v v₂ r
             go (judging.Accepted y awaits left) e = accepted-on y awaits left e
             go (judging.Refused q left) e = refused-on q left e

@@ -2,10 +2,9 @@
 use mathlib.Core.Path.{_≡_}
 use mathlib.Core.List.{List}
 use Prim.Native.Nat.{ℕ, _≤_, _<_}
-use lib.ListN.{length, replicate}
+use lib.ListN.{length}
 use Rattle.budget.specs.declared.FlowBudget.{FlowBudget}
 use Rattle.budget.specs.declared.Limits.{Limits}
-use Rattle.format.specs.declared.refusal.Refusal.{Refusal}
 use Rattle.memory.specs.declared.layout.Layout.{Layout}
 use Rattle.memory.specs.Scratch.{scratch, Room}
 use Rattle.sheet.specs.Decode.{partsOf}
@@ -36,5 +35,4 @@ pub record Listing (s : List ℕ) (records : ℕ) (w : List ℕ) (y : Layout) : 
 pub record Examines (s : List ℕ) (l : Limits) (records : ℕ) (b : FlowBudget) (w w′ v v′ : List ℕ) (r : Examined) : Type 0 where
   pub answer : outcomeIn r ≡ outcomeOf s l (lengthsOf w v records) b
   pub sets : v′ ≡ setsAfter s (lengthsOf w v records) (outcomeIn r)
-  pub cleared : (q : Refusal) (id : ℕ) (left : FlowBudget) → r ≡ Refused q id left → w′ ≡ replicate (length w) 0
   pub listing : (id : ℕ) (y : Layout) (awaits : ℕ) (left : FlowBudget) → r ≡ Accepted id y awaits left → Listing s records w′ y

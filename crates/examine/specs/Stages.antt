@@ -1,4 +1,4 @@
--- How `examine` ends: the answer of the judging with the function's id, and both buffers as they are left.
+-- How `examine` ends: the answer of the judging with the function's id, and the sets buffer as it is left.
 use mathlib.Core.Path.{_≡_}
 use mathlib.Core.List.{List, _++_}
 use Prim.Native.Nat.{ℕ, _+_, _*_, _-_, _≤_}
@@ -38,9 +38,9 @@ pub record Acceptable (y : Layout) (awaits : ℕ) (v : List ℕ) : Type 0 where
 pub record Finishing (j : Judged) (v : List ℕ) : Type 0 where
   pub acceptable : (y : Layout) (awaits : ℕ) (left : FlowBudget) → j ≡ judging.Accepted y awaits left → Acceptable y awaits v
 
--- what `finish` does: after acceptance scratch stays, and the sets buffer keeps the answer alone
-pub record Finishes (id : ℕ) (j : Judged) (w w′ v v′ : List ℕ) (r : Examined) : Type 0 where
+-- what `finish` does: after acceptance the sets buffer keeps the answer alone, after a refusal nothing
+pub record Finishes (id : ℕ) (j : Judged) (v v′ : List ℕ) (r : Examined) : Type 0 where
   pub answer : r ≡ examinedBy id j
   pub kept : (y : Layout) (awaits : ℕ) (left : FlowBudget) → j ≡ judging.Accepted y awaits left
-      → (w′ ≡ w) × (v′ ≡ cutAt (answerWords y awaits) v)
-  pub cleared : (q : Refusal) (left : FlowBudget) → j ≡ judging.Refused q left → (w′ ≡ zeros w) × (v′ ≡ zeros v)
+      → v′ ≡ cutAt (answerWords y awaits) v
+  pub cleared : (q : Refusal) (left : FlowBudget) → j ≡ judging.Refused q left → v′ ≡ zeros v

@@ -18,8 +18,8 @@ pub enum Examined {
     Refused(Refusal, u32, FlowBudget),
 }
 
-// The sheet checks, then the judging. After a refusal both buffers are zero; after acceptance the sets buffer holds the answer and then zeros, and
-// scratch the blocks. `records` is how many block records are lent.
+// The sheet checks, then the judging. After a refusal the sets buffer is zero; after acceptance it holds the answer and then zeros, and scratch the
+// blocks. The caller clears scratch. `records` is how many block records are lent.
 pub fn examine(
     sheet: &[u8],
     s: &mut [u64],
@@ -32,22 +32,22 @@ pub fn examine(
     ensures { λ r. ⌜ Examines (now (sheet .entry)) limits records budget (now (s .entry)) (now (s .exit)) (now (t .entry)) (now (t .exit)) r ⌝ }
 {
     match sheet::check(sheet) {
-        Checked::Refused(r, id) => refuse(s, t, r, id, budget),
+        Checked::Refused(r, id) => refuse(t, r, id, budget),
         Checked::Passed(script) => {
             let j = judge::judge(sheet, s, t, script, records, limits, budget);
-            finish(s, t, script.id, j)
+            finish(t, script.id, j)
         }
     }
 }
 
-// The answer of the judging, and the buffers as it asks.
-fn finish(s: &mut [u64], t: &mut [u64], id: u32, j: Judged) -> Examined
+// The answer of the judging, and the sets buffer as it asks.
+fn finish(t: &mut [u64], id: u32, j: Judged) -> Examined
     requires { ⌜ Finishing j (now t) ⌝ }
-    ensures { λ r. ⌜ Finishes id j (now (s .entry)) (now (s .exit)) (now (t .entry)) (now (t .exit)) r ⌝ }
+    ensures { λ r. ⌜ Finishes id j (now (t .entry)) (now (t .exit)) r ⌝ }
 {
     match j {
         Judged::Accepted(y, awaits, left) => accept(t, id, y, awaits, left),
-        Judged::Refused(r, left) => refuse(s, t, r, id, left),
+        Judged::Refused(r, left) => refuse(t, r, id, left),
     }
 }
 
@@ -60,11 +60,10 @@ fn accept(t: &mut [u64], id: u32, y: Layout, awaits: usize, left: FlowBudget) ->
     Examined::Accepted(id, y, awaits, left)
 }
 
-// Both buffers are cleared.
-fn refuse(s: &mut [u64], t: &mut [u64], r: Refusal, id: u32, left: FlowBudget) -> Examined
-    ensures { λ e. ⌜ (e ≡ Examined.Refused r id left) × (now (s .exit) ≡ zeros (now (s .entry))) × (now (t .exit) ≡ zeros (now (t .entry))) ⌝ }
+// The sets buffer is cleared.
+fn refuse(t: &mut [u64], r: Refusal, id: u32, left: FlowBudget) -> Examined
+    ensures { λ e. ⌜ (e ≡ Examined.Refused r id left) × (now (t .exit) ≡ zeros (now (t .entry))) ⌝ }
 {
-    clear::clear(s);
     clear::clear(t);
     Examined::Refused(r, id, left)
 }

@@ -30,7 +30,7 @@ judge-requires c κs =
 
 finish-requires : tie.Need-finish-requires
 finish-requires c κs =
-    let j = c .before .before .before .before .before .before in
+    let j = c .before .before .before .before .before in
     let q = j .before .before .before .before in
     let k = q .before .before in
     let a = k .before .before .before .before .args in
@@ -40,34 +40,30 @@ finish-requires c κs =
 same-length : tie.Need-same-length
 same-length c = search needs
 
-same-length-2 : tie.Need-same-length-2
-same-length-2 c = search needs
-
 returns : tie.Need-returns
 returns c =
-    let f = c .before .before .before .before in
-    let q = f .before .before .before .before in
+    let f = c .before .before in
+    let q = f .before .before .before in
     let k = q .before .before in
     let a = k .before .before .before .before .args in
     examines-refused (now (a .sheet)) (a .limits) (a .records) (a .budget) (now (a .s)) (now (a .t)) _ (k .check .ensures) _ _ _ _ _
-    (q .r .given .1) (f .refuse .ensures .0) (f .refuse .ensures .1) (f .refuse .ensures .2)
+    (q .r .given .1) (f .refuse .ensures .0) (f .refuse .ensures .1)
+
+same-length-2 : tie.Need-same-length-2
+same-length-2 c = search needs
 
 same-length-3 : tie.Need-same-length-3
 same-length-3 c = search needs
 
-same-length-4 : tie.Need-same-length-4
-same-length-4 c = search needs
-
 returns-2 : tie.Need-returns-2
 returns-2 c =
-    let f = c .before .before .before .before in
-    let j = f .before .before .before .before .before .before .before in
+    let f = c .before .before in
+    let j = f .before .before .before .before .before .before in
     let q = j .before .before .before .before in
     let k = q .before .before in
     let a = k .before .before .before .before .args in
     examines-on (now (a .sheet)) (a .limits) (a .records) (a .budget) (now (a .s)) (now (a .t)) _ (k .check .ensures) _ (q .script .given .1)
-    _ _ _ (j .judge .ensures) (λ i. omega (arith, f .before .before .before .slice-known6 .given i)) (omega (arith, j .judge .kept .1))
-    (omega (arith, j .judge .kept .1)) _ _ _ (f .finish .ensures)
+    _ _ _ (j .judge .ensures) (λ i. omega (arith, f .before .before .slice-known5 .given i)) (omega (arith, j .judge .kept .1)) _ _ (f .finish .ensures)
 
 pub examine-spec : {M : Type 1} → statement M
 examine-spec =
@@ -80,8 +76,7 @@ examine-spec =
     judge-requires
     finish-requires
     same-length
-    same-length-2
     returns
+    same-length-2
     same-length-3
-    same-length-4
     returns-2)

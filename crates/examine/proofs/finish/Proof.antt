@@ -1,5 +1,4 @@
 -- `examine::finish` meets its contract. Assumes nothing.
-use mathlib.Core.Path.{refl}
 use denote.Ref.{now}
 use borrow.Author.Needs.{needs}
 use Rattle.examine.proofs.ExamineLaws.{finishes-on, finishes-refused}
@@ -11,7 +10,7 @@ enum-known-j c = search needs
 
 accept-requires : tie.Need-accept-requires
 accept-requires c κs =
-    c .before .before .before .before .before .before .pre .acceptable _ _ _ (c .before .before .j .given .1)
+    c .before .before .before .before .before .pre .acceptable _ _ _ (c .before .before .j .given .1)
 
 enum-known-j-2 : tie.Need-enum-known-j-2
 enum-known-j-2 c = search needs
@@ -25,22 +24,19 @@ same-length c = search needs
 returns : tie.Need-returns
 returns c =
     let f = c .before .before in
-    let a = f .before .before .before .before .before .before .before .args in
-    finishes-on (a .id) (a .j) (now (a .s)) (now (a .t)) _ _ _ _ _ _ (f .before .before .before .j .given .1) (f .accept .ensures .0) refl
+    let a = f .before .before .before .before .before .before .args in
+    finishes-on (a .id) (a .j) (now (a .t)) _ _ _ _ _ (f .before .before .before .j .given .1) (f .accept .ensures .0)
     (f .accept .ensures .1)
 
 same-length-2 : tie.Need-same-length-2
 same-length-2 c = search needs
 
-same-length-3 : tie.Need-same-length-3
-same-length-3 c = search needs
-
 returns-2 : tie.Need-returns-2
 returns-2 c =
-    let f = c .before .before .before .before in
-    let a = f .before .before .before .before .before .before .before .before .args in
-    finishes-refused (a .id) (a .j) (now (a .s)) (now (a .t)) _ _ _ _ _ (f .before .before .before .before .j2 .given .1) (f .refuse .ensures .0)
-    (f .refuse .ensures .1) (f .refuse .ensures .2)
+    let f = c .before .before in
+    let a = f .before .before .before .before .before .before .args in
+    finishes-refused (a .id) (a .j) (now (a .t)) _ _ _ _ (f .before .before .before .j2 .given .1) (f .refuse .ensures .0)
+    (f .refuse .ensures .1)
 
 pub finish-spec : {M : Type 1} → statement M
 finish-spec =
@@ -53,5 +49,4 @@ finish-spec =
     same-length
     returns
     same-length-2
-    same-length-3
     returns-2)
