@@ -1,20 +1,20 @@
 -- Charges in parts, and what a budget is after them. Assumes nothing.
 use mathlib.Core.Path.{_≡_, refl, sym, ap, _∙_}
-use mathlib.Core.Bool.{Bool, true, false}
+use mathlib.Core.Bool.{Bool, true, false, false≢true}
 use mathlib.Core.List.{List, [], _∷_, _++_}
-use Prim.Native.Nat.{ℕ, zero, suc, _+_, _*_, _-_, _≤_, _<_}
+use Prim.Native.Nat.{ℕ, _+_, _*_, _-_, _≤_, _<_}
 use native.Mathlib.Omega.{arith}
 use native.Mathlib.Nat.{mul-le-mul}
 use lib.Dec.{leb}
 use lib.ListN.{replicate, replicate-append-replicate}
 use borrow.Author.Tests.{le-leb, lt-leb}
 use Rattle.dataflow.specs.Lists.{pick}
-use Rattle.dataflow.specs.Charges.{Spent, within, crossed, saturatingSum, spend, andThen}
+use Rattle.dataflow.specs.Charges.{Spent, within, crossed, saturatingSum, spend}
 use Rattle.budget.specs.declared.FlowBudget.{FlowBudget}
 use Rattle.budget.specs.declared.Limits.{Limits}
 use Rattle.budget.specs.declared.Charged.{Charged}
 use Rattle.budget.specs.declared.Charged.the-variants.{Ok, Over}
-use Rattle.budget.specs.Budget.{withWork, afterSpent, charged, andCharged, stateBytes}
+use Rattle.budget.specs.Budget.{withWork, afterSpent, charged, andCharged}
 
 -- no charge changes nothing
 pub charged-none : (l : Limits) (b : FlowBudget) → charged l b [] ≡ Ok b
@@ -52,6 +52,23 @@ charged-append l b (c ∷ cs) ds =
     go (Ok b′) f = f b′
     go (Over b′) f = refl
 
+module _ (l : Limits) (b : FlowBudget) (cs ds : List ℕ) where
+  -- those of the first part were met
+  pub met-then : {left : FlowBudget} → charged l b cs ≡ Ok left → charged l b (cs ++ ds) ≡ charged l left ds
+  met-then e = charged-append l b cs ds ∙ ap (λ (c : Charged). andCharged c (λ b′. charged l b′ ds)) e
+
+  -- they crossed the limit, whatever was to follow
+  pub over-then : {x : FlowBudget} → charged l b cs ≡ Over x → charged l b (cs ++ ds) ≡ Over x
+  over-then e = charged-append l b cs ds ∙ ap (λ (c : Charged). andCharged c (λ b′. charged l b′ ds)) e
+
+-- a crossed limit is none that was met
+pub over-not-ok : {x left : FlowBudget} → Over x ≡ Ok left → ⊥
+over-not-ok e = false≢true (ap isOk e)
+  where
+    isOk : Charged → Bool
+    isOk (Ok x) = true
+    isOk (Over x) = false
+
 -- one charge, by the sum that it makes
 module _ (l : Limits) (b : FlowBudget) (c w : ℕ) (e : w ≡ saturatingSum (b .work) c) where
   pub charged-met : w ≤ l .work → Ok (withWork b w) ≡ charged l b (c ∷ [])
@@ -77,8 +94,7 @@ module _ (l : Limits) (b : FlowBudget) where
       let q : n ≡ k + (n - k) = omega arith in
       ap (λ (i : ℕ). charged l b (replicate i 1)) q
       ∙ ap (charged l b) (sym (replicate-append-replicate k (n - k) 1))
-      ∙ charged-append l b (replicate k 1) (replicate (n - k) 1)
-      ∙ ap (λ (c : Charged). andCharged c (λ x. charged l x (replicate (n - k) 1))) e
+      ∙ met-then l b (replicate k 1) (replicate (n - k) 1) e
 
   -- so many crossed the limit: so do more
   pub ones-over : (k n : ℕ) {b′ : FlowBudget} → charged l b (replicate k 1) ≡ Over b′ → k ≤ n → charged l b (replicate n 1) ≡ Over b′
@@ -86,8 +102,7 @@ module _ (l : Limits) (b : FlowBudget) where
       let q : n ≡ k + (n - k) = omega arith in
       ap (λ (i : ℕ). charged l b (replicate i 1)) q
       ∙ ap (charged l b) (sym (replicate-append-replicate k (n - k) 1))
-      ∙ charged-append l b (replicate k 1) (replicate (n - k) 1)
-      ∙ ap (λ (c : Charged). andCharged c (λ x. charged l x (replicate (n - k) 1))) e
+      ∙ over-then l b (replicate k 1) (replicate (n - k) 1) e
 
   -- one more
   pub ones-more : (k : ℕ) {b′ : FlowBudget} → charged l b (replicate k 1) ≡ Ok b′ → charged l b (replicate (k + 1) 1) ≡ charged l b′ (1 ∷ [])

@@ -1,5 +1,5 @@
 -- A budget, its limits, and what charges make of it.
-use mathlib.Core.List.{List, [], _∷_}
+use mathlib.Core.List.{List}
 use Prim.Native.Nat.{ℕ, _+_, _*_}
 use lib.Dec.{leb}
 use Rattle.dataflow.specs.Lists.{pick}

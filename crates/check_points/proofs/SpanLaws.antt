@@ -2,19 +2,20 @@
 -- Assumes nothing.
 use mathlib.Core.Path.{_≡_, refl, sym, ap, ap₂, subst, _∙_}
 use mathlib.Core.Bool.{Bool, true, false, true≢false, false≢true}
-use mathlib.Core.List.{List, [], _∷_, _++_, map, append-assoc}
-use Prim.Native.Nat.{ℕ, zero, suc, _+_, _-_, _≤_, _<_}
+use mathlib.Core.List.{List, [], _∷_, _++_, append-assoc}
+use Prim.Native.Nat.{ℕ, suc, _+_, _-_, _≤_, _<_}
 use native.Mathlib.Nat.{add-zero, zero-add}
 use native.Mathlib.Omega.{arith}
-use lib.ListN.{length, getD, length-append}
+use lib.ListN.{length, getD, length-map, length-append}
 use Rattle.dataflow.specs.Lists.{pick, range, keep}
 use Rattle.dataflow.specs.Analyses.{liveAlong}
 use Rattle.dataflow.specs.Blocks.{pointsOf}
 use Rattle.dataflow.specs.Code as flow
-use Rattle.dataflow.specs.Code.{leader, leaders, body, blockGraph, outside}
+use Rattle.dataflow.specs.Code.{leaders, body, blockGraph, outside}
 use Rattle.dataflow.specs.Results.{blockCount, reachable, liveExit}
 use Rattle.dataflow.specs.Verdict.{awaitAt}
-use Rattle.dataflow.proofs.Leaders.{leaders-are, block-range, blocks-cover}
+use Rattle.dataflow.proofs.Lists.{keep-both}
+use Rattle.dataflow.proofs.Leaders.{leaders-below, block-range, blocks-cover}
 use Rattle.operands.specs.Kinds.{isAwait}
 use Rattle.memory.specs.Cells.{Mem, word}
 use Rattle.memory.specs.Names.{startCell, endCell}
@@ -30,23 +31,6 @@ use Rattle.verdict.specs.Points.{Point, awaitPoints, blockPoints, points}
 use Rattle.check_points.specs.CheckPoints.{codeOf, Solved}
 
 -- ---- where a block lies
-
--- a leader, or the end of the code, is at most the end of the code
-keep-below : (f : ℕ → Bool) (k m n : ℕ) → k + m ≤ n → (i : ℕ) → getD (keep f (range k m)) i n ≤ n
-keep-below f k zero n h i = omega arith
-keep-below f k (suc m) n h i = go (f k) i (keep-below f (suc k) m n (omega arith))
-  where
-    go : (t : Bool) (i : ℕ) → ((j : ℕ) → getD (keep f (range (suc k) m)) j n ≤ n)
-        → getD (pick t (k ∷ keep f (range (suc k) m)) (keep f (range (suc k) m))) i n ≤ n
-    go false i r = r i
-    go true zero r = omega arith
-    go true (suc i) r = r i
-
--- of any code
-leaders-below : (code : List flow.Instruction) (i : ℕ) → getD (leaders code) i (length code) ≤ length code
-leaders-below code i =
-    subst (λ (l : List ℕ). getD l i (length code) ≤ length code) (sym (leaders-are code))
-    (keep-below (leader code) 0 (length code) (length code) (omega arith) i)
 
 -- block c is the instructions from start to end
 pub record Span (s : List ℕ) (y : Layout) (c start end : ℕ) : Type 0 where
@@ -96,16 +80,6 @@ module _ (code : List flow.Instruction) (parameter : ℕ → Bool) where
 
   -- ---- the awaits of lists one after the other
 
-  -- those kept of two lists
-  keep-append : (f : ℕ → Bool) (a b : List ℕ) → length (keep f (a ++ b)) ≡ length (keep f a) + length (keep f b)
-  keep-append f [] b = omega arith
-  keep-append f (i ∷ a) b = go (f i) (keep-append f a b)
-    where
-      go : (t : Bool) → length (keep f (a ++ b)) ≡ length (keep f a) + length (keep f b)
-          → length (pick t (i ∷ keep f (a ++ b)) (keep f (a ++ b))) ≡ length (pick t (i ∷ keep f a) (keep f a)) + length (keep f b)
-      go true e = omega (arith, e)
-      go false e = e
-
   -- the points of blocks are no more than the awaits of their instructions
   blocks-few : (words : ℕ) (cs : List ℕ) → length (blockPoints code parameter words cs) ≤ length (keep (awaitAt code) (pointsOf (blockGraph code) cs))
   unfolding blockPoints
@@ -123,9 +97,9 @@ module _ (code : List flow.Instruction) (parameter : ℕ → Bool) where
         h,
         length-append facts (blockPoints code parameter words cs),
         points-length (liveExit code parameter words c) (body code c),
-        keep-append (awaitAt code) (body code c) (pointsOf (blockGraph code) cs),
+        keep-both (awaitAt code) (body code c) (pointsOf (blockGraph code) cs),
       )
-      go false h = omega (arith, h, keep-append (awaitAt code) (body code c) (pointsOf (blockGraph code) cs))
+      go false h = omega (arith, h, keep-both (awaitAt code) (body code c) (pointsOf (blockGraph code) cs))
 
   -- ---- the blocks in turn
 
@@ -140,14 +114,6 @@ module _ (code : List flow.Instruction) (parameter : ℕ → Bool) where
     where
       facts : List Point
       facts = pick (reachable code c) (awaitPoints code parameter (liveExit code parameter words c) (body code c)) []
-
--- numbers in turn, and then more
-pub range-append : (k m n : ℕ) → range k (m + n) ≡ range k m ++ range (k + m) n
-range-append k zero n = ap₂ range (sym (add-zero k)) (zero-add n)
-range-append k (suc m) n =
-    let e : k + suc m ≡ suc k + m = omega arith in
-    let f : suc m + n ≡ suc (m + n) = omega arith in
-    rw (e, f) (ap (λ (l : List ℕ). k ∷ l) (range-append (suc k) m n))
 
 -- ---- the awaits of the whole code
 
@@ -175,13 +141,9 @@ awaits-counted code k (i ∷ is) h = go (awaitAt code k) (isAwait (i .kind)) sam
 code-awaits : (s : List ℕ) (x : Script) → Sound s x → length (keep (awaitAt (codeOf s)) (range 0 (length (codeOf s)))) ≡ x .awaits
 unfolding flowCode
 code-awaits s x h =
-    ap (λ (n : ℕ). length (keep (awaitAt (codeOf s)) (range 0 n))) (map-length (partsOf s .code))
+    ap (λ (n : ℕ). length (keep (awaitAt (codeOf s)) (range 0 n))) (length-map (partsOf s .code) flowInstruction)
     ∙ awaits-counted (codeOf s) 0 (partsOf s .code) at ∙ sym (h .awaits-are)
   where
-    map-length : (l : List Instruction) → length (map flowInstruction l) ≡ length l
-    map-length [] = refl
-    map-length (i ∷ l) = ap suc (map-length l)
-
     at : (j : ℕ) → j < length (partsOf s .code)
         → awaitAt (codeOf s) (0 + j) ≡ isAwait (getD (partsOf s .code) j (record { kind = 0; fields = [] }) .kind)
     at j lt =

@@ -7,6 +7,7 @@ use native.Mathlib.Nat.{add-zero}
 use native.Mathlib.Omega.{arith}
 use lib.ListN.{length, length-append}
 use Rattle.dataflow.specs.Lists.{range}
+use Rattle.dataflow.proofs.Lists.{range-append}
 use Rattle.budget.specs.declared.FlowBudget.{FlowBudget}
 use Rattle.budget.specs.declared.Limits.{Limits}
 use Rattle.format.specs.declared.refusal.Refusal.{Refusal}
@@ -21,7 +22,7 @@ use Rattle.points.specs.declared.awaits.Points.the-variants.{Passed, Refused}
 use Rattle.points.specs.Rows.{pointsOf, Entry, Entries}
 use Rattle.check_points.specs.CheckPoints.{codeOf, Solved, factsOf, Facing, BlockChecked, PointsChecked}
 use Rattle.check_points.proofs.SolvedLaws.{RunningOnly, running-then, solved-kept, solved-sets}
-use Rattle.check_points.proofs.SpanLaws.{range-append, blocks-append, points-few}
+use Rattle.check_points.proofs.SpanLaws.{blocks-append, points-few}
 use Rattle.check_points.proofs.CheckedLaws.{same-place}
 
 -- ---- entries

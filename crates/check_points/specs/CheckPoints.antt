@@ -1,12 +1,11 @@
 -- `check_points` of flow.rs over the words of both buffers: the answer is the run's, and the await facts stand in the sets buffer.
 use mathlib.Core.Path.{_≡_}
-use mathlib.Core.Bool.{Bool}
 use mathlib.Core.List.{List, []}
 use Prim.Native.Nat.{ℕ, suc, _+_, _*_, _≤_, _<_}
 use lib.ListN.{length, getD}
-use Rattle.dataflow.specs.Lists.{pick, range}
+use Rattle.dataflow.specs.Lists.{pick}
 use Rattle.dataflow.specs.Code.{Instruction, leaders, body}
-use Rattle.dataflow.specs.Results.{blockCount, reachable, liveExit}
+use Rattle.dataflow.specs.Results.{reachable, liveExit}
 use Rattle.budget.specs.declared.FlowBudget.{FlowBudget}
 use Rattle.budget.specs.declared.Limits.{Limits}
 use Rattle.memory.specs.Cells.{Mem, cell, word}

@@ -1,5 +1,5 @@
 -- BACKWARD: an assignment that meets the flow equations, and has added only what some path reads, is what is live: the least saved set.
-use mathlib.Core.Path.{_≡_, refl, sym}
+use mathlib.Core.Path.{_≡_, refl}
 use mathlib.Core.Bool.{Bool, true, false, _||_, or-true}
 use mathlib.Core.List.{List, [], _∷_, List·Memᴰ}
 use mathlib.Core.Logic.{inl, inr, _↔_}
@@ -8,7 +8,7 @@ use Rattle.dataflow.specs.Paths.{Path, stop, step, Reached}
 use Rattle.dataflow.specs.Analyses.{written, Live}
 use Rattle.dataflow.specs.Demand.{Saves, Least}
 use Rattle.dataflow.specs.Equations.{LiveEquation, LiveExact}
-use Rattle.dataflow.proofs.Bools.{or-no-left, or-no-right, or-first}
+use Rattle.dataflow.proofs.Bools.{or-no-left, or-no-right, or-first, same-truth}
 use Rattle.dataflow.proofs.Paths.{reached-next}
 
 module _ {P S : Type 0} (p : Program P S) where
@@ -49,12 +49,7 @@ module _ {P S : Type 0} (p : Program P S) where
 
   -- Two least sets are equal: "exactly one saved set".
   pub least-unique : (i : P) (x y : S → Bool) → Least p i x → Least p i y → (s : S) → x s ≡ y s
-  least-unique i x y a b s = go (x s) (y s) (a .least y (b .saves) s) (b .least x (a .saves) s)
-    where
-      go : (u v : Bool) → (u ≡ true → v ≡ true) → (v ≡ true → u ≡ true) → u ≡ v
-      go true v f g = sym (f refl)
-      go false true f g = g refl
-      go false false f g = refl
+  least-unique i x y a b s = same-truth (x s) (y s) (a .least y (b .saves) s) (b .least x (a .saves) s)
 
   -- Of an exact assignment, the set at a point is the least saved set there.
   pub exact-least : (x : P → S → Bool) → LiveExact p x → (i : P) → Reached p i → Least p i (x i)

@@ -42,6 +42,12 @@ pub not-yes : (a : Bool) → not a ≡ true → a ≡ false
 not-yes true e = absurd (false≢true e)
 not-yes false e = refl
 
+-- two tests that hold together are equal
+pub same-truth : (a b : Bool) → (a ≡ true → b ≡ true) → (b ≡ true → a ≡ true) → a ≡ b
+same-truth true b f g = sym (f refl)
+same-truth false true f g = g refl
+same-truth false false f g = refl
+
 -- what is not true is false
 pub not-true : (a : Bool) → (a ≡ true → ⊥) → a ≡ false
 not-true true h = absurd (h refl)

@@ -3,7 +3,7 @@ use mathlib.Core.Path.{_≡_, refl, sym, _∙_, ap, subst}
 use mathlib.Core.Bool.{Bool, true, false}
 use mathlib.Core.List.{List, [], _∷_, _++_, map, List·Memᴰ, List·Memᴰ·head, List·Memᴰ·tail, List·Memᴰ·not-nil, List·Memᴰ·cases-cons, nil≢cons}
 use mathlib.Core.List.{head-eq-of-cons-eq, tail-eq-of-cons-eq}
-use mathlib.Core.Logic.{_⊎_, inl, inr, _≢_}
+use mathlib.Core.Logic.{_⊎_, inl, inr}
 use Prim.Native.Nat.{ℕ, zero, suc, _+_, _≤_, _<_}
 use native.Mathlib.Omega.{arith}
 use native.Mathlib.Decide.{ℕ-discrete, decLt}
@@ -12,7 +12,7 @@ use lib.ListN.{length, getD}
 use Rattle.dataflow.specs.Lists.{pick, range, keep}
 use Rattle.dataflow.specs.Blocks.{pointsOf}
 use Rattle.dataflow.specs.Code.{Instruction, leader, prepend, headOr, blocksFrom, blocks, leaders, body, blockGraph}
-use Rattle.dataflow.proofs.Lists.{mem-range}
+use Rattle.dataflow.proofs.Lists.{mem-range, range-append}
 
 -- ── The starts ──
 
@@ -25,6 +25,17 @@ mem-keep f (y ∷ l) x m e = go (f y) refl (List·Memᴰ·cases-cons m) (λ m′
     go true q (inr z) below = List·Memᴰ·tail (below z)
     go false q (inl z) below = absurd (mathlib.Core.Bool.true≢false (sym e ∙ (ap f z ∙ q)))
     go false q (inr z) below = below z
+
+-- of the numbers below n that are kept none is above n
+keep-below : (f : ℕ → Bool) (k m n : ℕ) → k + m ≤ n → (i : ℕ) → getD (keep f (range k m)) i n ≤ n
+keep-below f k zero n h i = omega arith
+keep-below f k (suc m) n h i = go (f k) i (keep-below f (suc k) m n (omega arith))
+  where
+    go : (t : Bool) (i : ℕ) → ((j : ℕ) → getD (keep f (range (suc k) m)) j n ≤ n)
+        → getD (pick t (k ∷ keep f (range (suc k) m)) (keep f (range (suc k) m))) i n ≤ n
+    go false i r = r i
+    go true zero r = omega arith
+    go true (suc i) r = r i
 
 module _ (code : List Instruction) where
   starts-from : (k m : ℕ) → map (headOr 0) (blocksFrom code k (suc m)) ≡ k ∷ keep (leader code) (range (suc k) m)
@@ -53,6 +64,12 @@ module _ (code : List Instruction) where
   -- so every leader starts a block
   pub leader-starts : (t : ℕ) → t < length code → leader code t ≡ true → List·Memᴰ t (leaders code)
   leader-starts t lt e = rw leaders-are (mem-keep (leader code) (range 0 (length code)) t (rw (zero-add t) at (mem-range 0 (length code) t lt)) e)
+
+  -- none is behind the end of the code
+  pub leaders-below : (i : ℕ) → getD (leaders code) i (length code) ≤ length code
+  leaders-below i =
+      subst (λ (l : List ℕ). getD l i (length code) ≤ length code) (sym leaders-are)
+      (keep-below (leader code) 0 (length code) (length code) (omega arith) i)
 
 -- ── The blocks follow one another ──
 
@@ -190,13 +207,6 @@ module _ (code : List Instruction) where
                 (λ i lt. let e : suc k + i ≡ k + suc i = omega arith in ap (body code) e ∙ h (suc i) (omega arith)),
           ) refl
 
-      range-append : (k m n : ℕ) → range k m ++ range (k + m) n ≡ range k (m + n)
-      range-append k zero n = ap (λ (i : ℕ). range i n) (add-zero k) ∙ ap (range k) (sym (zero-add n))
-      range-append k (suc m) n =
-          let e : k + suc m ≡ suc k + m = omega arith in
-          let f : suc m + n ≡ suc (m + n) = omega arith in
-          rw (e, f) (ap (λ (l : List ℕ). k ∷ l) (range-append (suc k) m n))
-
       joined-from : (k stop : ℕ) (r : List (List ℕ)) → Consecutive k stop r → (n : ℕ) × (k + n ≡ stop) × (joined r ≡ range k n)
       joined-from k stop [] h = (0, omega arith, refl)
       joined-from k stop (c ∷ r) h =
@@ -204,7 +214,7 @@ module _ (code : List Instruction) where
             length c + z .0,
             omega (arith, z .1),
             rw (z .2)
-                (ap (λ (l : List ℕ). l ++ range (k + length c) (z .0)) (h .0) ∙ range-append k (length c) (z .0)),
+                (ap (λ (l : List ℕ). l ++ range (k + length c) (z .0)) (h .0) ∙ sym (range-append k (length c) (z .0))),
           )
 
       joined-range : (stop : ℕ) (r : List (List ℕ)) → Consecutive 0 stop r → joined r ≡ range 0 stop

@@ -1,15 +1,15 @@
 -- Laws of lists.
-use mathlib.Core.Path.{_≡_, refl, sym, _∙_, ap, subst}
+use mathlib.Core.Path.{_≡_, refl, sym, _∙_, ap, ap₂, subst}
 use mathlib.Core.Bool.{Bool, true, false, true≢false, false≢true, or-true}
 use mathlib.Core.List.{List, [], _∷_, _++_, reverseAux, List·Memᴰ, List·Memᴰ·head, List·Memᴰ·tail, List·Memᴰ·not-nil, List·Memᴰ·cases-cons}
 use mathlib.Core.List.{List·Memᴰ·append-cases, List·Memᴰ·eq-of-singleton}
 use mathlib.Core.Logic.{_⊎_, inl, inr}
 use Prim.Native.Nat.{ℕ, zero, suc, _+_, _≤_, _<_}
 use native.Mathlib.Omega.{arith}
-use native.Mathlib.Nat.{add-zero}
-use lib.ListN.{length, getD, replicate}
+use native.Mathlib.Nat.{add-zero, zero-add}
+use lib.ListN.{length, getD, replicate, length-append}
 use lib.Dec.{eqb}
-use Rattle.dataflow.specs.Lists.{tabulate, range, sum, every, some, elem, NoDup}
+use Rattle.dataflow.specs.Lists.{pick, tabulate, range, sum, every, some, keep, elem, NoDup}
 use Rattle.dataflow.proofs.Bools.{and-left, and-right, and-no, or-yes, eqb-is, eqb-self}
 
 -- ── Tables ──
@@ -24,9 +24,28 @@ module _ {A : Type 0} where
   getD-tabulate k (suc n) zero f d lt = rw add-zero refl
   getD-tabulate k (suc n) (suc i) f d lt = getD-tabulate (suc k) n i f d (omega arith) ∙ ap f (omega arith)
 
+  -- two tables agree if their entries do
+  pub tabulate-among : (k n : ℕ) (f g : ℕ → A) → ((i : ℕ) → k ≤ i → i < k + n → f i ≡ g i) → tabulate k n f ≡ tabulate k n g
+  tabulate-among k zero f g h = refl
+  tabulate-among k (suc n) f g h =
+      ap₂ (λ (a : A) (l : List A). a ∷ l) (h k (omega arith) (omega arith))
+      (tabulate-among (suc k) n f g (λ i lo hi. h i (omega arith) (omega arith)))
+
   pub tabulate-ext : (k n : ℕ) (f g : ℕ → A) → ((i : ℕ) → f i ≡ g i) → tabulate k n f ≡ tabulate k n g
-  tabulate-ext k zero f g h = refl
-  tabulate-ext k (suc n) f g h = rw (h k, tabulate-ext (suc k) n f g h) refl
+  tabulate-ext k n f g h = tabulate-among k n f g (λ i lo hi. h i)
+
+  -- one entry again and again
+  pub tabulate-same : (k n : ℕ) (d : A) → tabulate k n (λ i. d) ≡ replicate n d
+  tabulate-same k zero d = refl
+  tabulate-same k (suc n) d = ap (λ (l : List A). d ∷ l) (tabulate-same (suc k) n d)
+
+  -- a table in two parts
+  pub tabulate-append : (k m n : ℕ) (f : ℕ → A) → tabulate k (m + n) f ≡ tabulate k m f ++ tabulate (k + m) n f
+  tabulate-append k zero n f = ap₂ (λ (i j : ℕ). tabulate i j f) (sym (add-zero k)) (zero-add n)
+  tabulate-append k (suc m) n f =
+      let e : k + suc m ≡ suc k + m = omega arith in
+      let g : suc m + n ≡ suc (m + n) = omega arith in
+      rw (e, g) (ap (λ (l : List A). f k ∷ l) (tabulate-append (suc k) m n f))
 
 -- a number of a table is no more than their sum
 pub sum-tabulate : (k n i : ℕ) (f : ℕ → ℕ) → i < n → f (k + i) ≤ sum (tabulate k n f)
@@ -39,6 +58,33 @@ mem-range k zero i lt = absurd (omega arith)
 mem-range k (suc n) zero lt = List·Memᴰ·head (add-zero k)
 mem-range k (suc n) (suc i) lt =
     List·Memᴰ·tail (subst (λ (j : ℕ). List·Memᴰ j (range (suc k) n)) (omega arith) (mem-range (suc k) n i (omega arith)))
+
+pub range-append : (k m n : ℕ) → range k (m + n) ≡ range k m ++ range (k + m) n
+range-append k m n = tabulate-append k m n (λ i. i)
+
+-- ── What is kept of a list ──
+
+pub keep-append : (f : ℕ → Bool) (l m : List ℕ) → keep f (l ++ m) ≡ keep f l ++ keep f m
+keep-append f [] m = refl
+keep-append f (x ∷ l) m = go (f x) (keep-append f l m)
+  where
+    go : (t : Bool) → keep f (l ++ m) ≡ keep f l ++ keep f m
+        → pick t (x ∷ keep f (l ++ m)) (keep f (l ++ m)) ≡ pick t (x ∷ keep f l) (keep f l) ++ keep f m
+    go true e = ap (λ (z : List ℕ). x ∷ z) e
+    go false e = e
+
+-- so many are kept of two lists
+pub keep-both : (f : ℕ → Bool) (l m : List ℕ) → length (keep f (l ++ m)) ≡ length (keep f l) + length (keep f m)
+keep-both f l m = ap length (keep-append f l m) ∙ length-append (keep f l) (keep f m)
+
+-- no more are kept than there are
+pub keep-few : (f : ℕ → Bool) (l : List ℕ) → length (keep f l) ≤ length l
+keep-few f [] = omega arith
+keep-few f (x ∷ l) = go (f x) (keep-few f l)
+  where
+    go : (t : Bool) → length (keep f l) ≤ length l → length (pick t (x ∷ keep f l) (keep f l)) ≤ suc (length l)
+    go true h = omega arith
+    go false h = omega arith
 
 -- ── Tests over lists ──
 

@@ -11,27 +11,28 @@ use lib.ListN.{length, getD, set, replicate, length-set, length-replicate}
 use lib.Seq.{getD-set-same, getD-set-other}
 use Rattle.dataflow.specs.Paths.{Path, stop, step}
 use Rattle.dataflow.specs.Lists.{NoDup}
-use Rattle.dataflow.specs.Search.{Sweep, add, addAll, onNext, takeTop, sweep, sweepFrom}
+use Rattle.dataflow.specs.Search.{Sweep, unvisited, add, addAll, onNext, takeTop, sweep, sweepFrom}
 use Rattle.dataflow.proofs.Lists.{getD-same}
 use Rattle.dataflow.proofs.Paths.{path-snoc}
 use Rattle.dataflow.proofs.Search.{Visited, From}
 
--- how many blocks are not visited
-abbrev unvisited : List Bool → ℕ
-unvisited [] = 0
-unvisited (true ∷ m) = unvisited m
-unvisited (false ∷ m) = suc (unvisited m)
-
-unvisited-set : (m : List Bool) (i : ℕ) → i < length m → getD m i false ≡ false → suc (unvisited (set m i true)) ≡ unvisited m
+-- a block that is visited is one less
+pub unvisited-set : (m : List Bool) (i : ℕ) → i < length m → getD m i false ≡ false → suc (unvisited (set m i true)) ≡ unvisited m
 unvisited-set [] i lt e = absurd (omega arith)
 unvisited-set (true ∷ m) zero lt e = absurd (true≢false e)
 unvisited-set (false ∷ m) zero lt e = refl
 unvisited-set (true ∷ m) (suc i) lt e = unvisited-set m i (omega arith) e
 unvisited-set (false ∷ m) (suc i) lt e = ap suc (unvisited-set m i (omega arith) e)
 
-unvisited-all : (n : ℕ) → unvisited (replicate n false) ≡ n
+-- before the first all are left
+pub unvisited-all : (n : ℕ) → unvisited (replicate n false) ≡ n
 unvisited-all zero = refl
 unvisited-all (suc n) = ap suc (unvisited-all n)
+
+-- a block that joins the stack is not taken from it
+pub add-taken : (next : ℕ → List ℕ) (t : Bool) (c : ℕ) (r : Sweep) → add next t c r .taken ≡ r .taken
+add-taken next true c r = refl
+add-taken next false c r = refl
 
 module _ (next : ℕ → List ℕ) (n root : ℕ) (root-below : root < n) (below : (b c : ℕ) → List·Memᴰ c (next b) → c < n) where
   -- what the search keeps, while the successors `due` of b, which was taken last, are still to be added
@@ -141,10 +142,6 @@ module _ (next : ℕ → List ℕ) (n root : ℕ) (root-below : root < n) (below
               split (inl z) = inl (rw z at-c)
               split (inr z) = inr (q .0, z)
 
-  add-same : (t : Bool) (c : ℕ) (r : Sweep) → add next t c r .taken ≡ r .taken
-  add-same true c r = refl
-  add-same false c r = refl
-
   -- what joins the stack was not visited
   add-left : (b c : ℕ) (cs : List ℕ) (r : Sweep) → List·Memᴰ c (next b) → Sweeping b (c ∷ cs) r
       → left (add next (getD (r .visited) c false) c r) ≡ left r
@@ -160,7 +157,7 @@ module _ (next : ℕ → List ℕ) (n root : ℕ) (root-below : root < n) (below
   all-keeps b (c ∷ cs) r sub mb k =
       let mc : List·Memᴰ c (next b) = sub c (List·Memᴰ·head refl) in
       let r′ : Sweep = add next (getD (r .visited) c false) c r in
-      let z = all-keeps b cs r′ (λ x m. sub x (List·Memᴰ·tail m)) (rw (add-same (getD (r .visited) c false) c r) mb) (add-keeps b c cs r mc mb k) in
+      let z = all-keeps b cs r′ (λ x m. sub x (List·Memᴰ·tail m)) (rw (add-taken next (getD (r .visited) c false) c r) mb) (add-keeps b c cs r mc mb k) in
       (z .0, z .1 ∙ add-left b c cs r mc k)
 
   -- b is taken from the stack

@@ -13,7 +13,7 @@ use lib.Seq.{getD-set-same, getD-set-other}
 use Rattle.dataflow.specs.Paths.{Path, stop, step}
 use Rattle.dataflow.specs.Lists.{tabulate, sum, NoDup}
 use Rattle.dataflow.specs.Search.{Frame, Search, look, advance, onTop, search, turns, searchFrom, allTurns}
-use Rattle.dataflow.proofs.Lists.{getD-same}
+use Rattle.dataflow.proofs.Lists.{mem-getD, getD-same}
 use Rattle.dataflow.proofs.Paths.{path-snoc}
 
 abbrev pub Visited : List Bool → ℕ → Type 0
@@ -26,26 +26,58 @@ From next root b = (l : List ℕ) × Path next root l b
 module _ (next : ℕ → List ℕ) where
   -- ── How many turns ──
 
-  -- the turns that are left: one for each frame, one for each successor not looked at yet, the unvisited blocks' too
-  abbrev frames : List Frame → ℕ
+  -- one for each frame and for each successor that it has still to look at
+  abbrev pub frames : List Frame → ℕ
   frames [] = 0
   frames (f ∷ fs) = suc (length (f .rest)) + frames fs
 
-  abbrev unvisited : ℕ → List Bool → ℕ
-  unvisited k [] = 0
-  unvisited k (true ∷ m) = unvisited (suc k) m
-  unvisited k (false ∷ m) = suc (length (next k)) + unvisited (suc k) m
+  -- one for each block that is not visited, from block k on, and for each of its successors
+  abbrev pub ahead : ℕ → List Bool → ℕ
+  ahead k [] = 0
+  ahead k (true ∷ m) = ahead (suc k) m
+  ahead k (false ∷ m) = suc (length (next k)) + ahead (suc k) m
 
-  abbrev turnsLeft : Search → ℕ
-  turnsLeft d = frames (d .stack) + unvisited 0 (d .visited)
+  -- the turns that are left
+  abbrev pub turnsLeft : Search → ℕ
+  turnsLeft d = frames (d .stack) + ahead 0 (d .visited)
 
-  unvisited-set : (k : ℕ) (m : List Bool) (i : ℕ) → i < length m → getD m i false ≡ false
-      → unvisited k (set m i true) + suc (length (next (k + i))) ≡ unvisited k m
-  unvisited-set k [] i lt e = absurd (omega arith)
-  unvisited-set k (true ∷ m) zero lt e = absurd (true≢false e)
-  unvisited-set k (false ∷ m) zero lt e = rw (add-zero k) (omega arith)
-  unvisited-set k (true ∷ m) (suc i) lt e = rw (add-suc k i, ← suc-add k i) (unvisited-set (suc k) m i (omega arith) e)
-  unvisited-set k (false ∷ m) (suc i) lt e = rw (add-suc k i, ← suc-add k i) (omega (arith, unvisited-set (suc k) m i (omega arith) e))
+  ahead-set : (k : ℕ) (m : List Bool) (i : ℕ) → i < length m → getD m i false ≡ false
+      → ahead k (set m i true) + suc (length (next (k + i))) ≡ ahead k m
+  ahead-set k [] i lt e = absurd (omega arith)
+  ahead-set k (true ∷ m) zero lt e = absurd (true≢false e)
+  ahead-set k (false ∷ m) zero lt e = rw (add-zero k) (omega arith)
+  ahead-set k (true ∷ m) (suc i) lt e = rw (add-suc k i, ← suc-add k i) (ahead-set (suc k) m i (omega arith) e)
+  ahead-set k (false ∷ m) (suc i) lt e = rw (add-suc k i, ← suc-add k i) (omega (arith, ahead-set (suc k) m i (omega arith) e))
+
+  ahead-all : (k m : ℕ) → ahead k (replicate m false) ≡ sum (tabulate k m (λ b. suc (length (next b))))
+  ahead-all k zero = refl
+  ahead-all k (suc m) = ap (λ (z : ℕ). suc (length (next k)) + z) (ahead-all (suc k) m)
+
+  -- at the start all are left,
+  pub start-left : (n root : ℕ) → root < n → turnsLeft (searchFrom next n root) ≡ allTurns next n
+  start-left n root lt = omega (
+    arith,
+    rw (zero-add root) at (ahead-set 0 (replicate n false) root (rw (length-replicate n false) lt) (getD-same n root false)),
+    ahead-all 0 n,
+  )
+
+  -- each turn is one less, if the successor that it looks at is a block,
+  pub advance-left : (b : ℕ) (l : List ℕ) (fs : List Frame) (d : Search) → d .stack ≡ record { block = b; rest = l } ∷ fs
+      → (0 < length l → getD l 0 0 < length (d .visited)) → suc (turnsLeft (advance next b l fs d)) ≡ turnsLeft d
+  advance-left b [] fs d e below = rw e (omega arith)
+  advance-left b (c ∷ l) fs d e below = go (getD (d .visited) c false) refl
+    where
+      go : (t : Bool) → getD (d .visited) c false ≡ t → suc (turnsLeft (look next t c (record { block = b; rest = l } ∷ fs) d)) ≡ turnsLeft d
+      go true s = rw e (omega arith)
+      go false s = rw e (omega (arith, rw (zero-add c) at (ahead-set 0 (d .visited) c (below (omega arith)) s)))
+
+  -- and at the end the stack is empty
+  pub none-left : (d : Search) → turnsLeft d ≡ 0 → d .stack ≡ []
+  none-left d h = go (d .stack) (omega arith)
+    where
+      go : (fs : List Frame) → frames fs ≤ 0 → fs ≡ []
+      go [] q = refl
+      go (f ∷ fs) q = absurd (omega arith)
 
   -- ── What the search keeps ──
 
@@ -229,21 +261,13 @@ module _ (next : ℕ → List ℕ) where
         go false s = fresh s
 
     -- each turn is one less
-    advance-left : (b : ℕ) (l : List ℕ) (fs : List Frame) (d : Search) → d .stack ≡ record { block = b; rest = l } ∷ fs → SearchInvariant d
+    advance-less : (b : ℕ) (l : List ℕ) (fs : List Frame) (d : Search) → d .stack ≡ record { block = b; rest = l } ∷ fs → SearchInvariant d
         → suc (turnsLeft (advance next b l fs d)) ≡ turnsLeft d
-    advance-left b [] fs d e k = rw e (omega arith)
-    advance-left b (c ∷ l) fs d e k = go (getD (d .visited) c false) refl
+    advance-less b l fs d e k =
+        advance-left b l fs d e (λ h. rw (k .len) (below b (getD l 0 0) (opened′ .1 (getD l 0 0) (mem-getD l 0 0 h))))
       where
-        opened′ : Open (d .visited) (record { block = b; rest = c ∷ l } ∷ fs)
+        opened′ : Open (d .visited) (record { block = b; rest = l } ∷ fs)
         opened′ = rw e at (k .opened)
-
-        go : (t : Bool) → getD (d .visited) c false ≡ t → suc (turnsLeft (look next t c (record { block = b; rest = l } ∷ fs) d)) ≡ turnsLeft d
-        go true s = rw e (omega arith)
-        go false s = rw e (omega (
-          arith,
-          rw (zero-add c) at
-              (unvisited-set 0 (d .visited) c (rw (k .len) (below b c (opened′ .1 c (List·Memᴰ·head refl)))) s),
-        ))
 
     advance-keeps : (b : ℕ) (l : List ℕ) (fs : List Frame) (d : Search) → d .stack ≡ record { block = b; rest = l } ∷ fs → SearchInvariant d
         → SearchInvariant (advance next b l fs d)
@@ -253,13 +277,9 @@ module _ (next : ℕ → List ℕ) where
     -- with as many turns as are left the search keeps all this and ends
     search-ends : (m : ℕ) (d : Search) → turnsLeft d ≡ m → SearchInvariant d → SearchInvariant (search next m d) × (search next m d .stack ≡ [])
     unfolding search
-    search-ends zero d e k = (k, none (d .stack) (omega arith))
-      where
-        none : (fs : List Frame) → frames fs ≤ 0 → fs ≡ []
-        none [] h = refl
-        none (f ∷ fs) h = absurd (omega arith)
+    search-ends zero d e k = (k, none-left d e)
     search-ends (suc m) d e k = go (d .stack) refl
-        (λ f fs q. search-ends m (advance next (f .block) (f .rest) fs d) (omega (arith, advance-left (f .block) (f .rest) fs d q k))
+        (λ f fs q. search-ends m (advance next (f .block) (f .rest) fs d) (omega (arith, advance-less (f .block) (f .rest) fs d q k))
         (advance-keeps (f .block) (f .rest) fs d q k))
       where
         go : (st : List Frame) → d .stack ≡ st
@@ -328,22 +348,11 @@ module _ (next : ℕ → List ℕ) where
 
     -- ── The search from the root ──
 
-    all-left : (k m : ℕ) → unvisited k (replicate m false) ≡ sum (tabulate k m (λ b. suc (length (next b))))
-    all-left k zero = refl
-    all-left k (suc m) = ap (λ (z : ℕ). suc (length (next k)) + z) (all-left (suc k) m)
-
-    start-left : turnsLeft (searchFrom next n root) ≡ allTurns next n
-    start-left = omega (
-      arith,
-      rw (zero-add root) at (unvisited-set 0 (replicate n false) root (rw (length-replicate n false) root-below) (getD-same n root false)),
-      all-left 0 n,
-    )
-
     abbrev whole : Search
     whole = search next (allTurns next n) (searchFrom next n root)
 
     ended : SearchInvariant whole × (whole .stack ≡ [])
-    ended = search-ends (allTurns next n) (searchFrom next n root) start-left start-keeps
+    ended = search-ends (allTurns next n) (searchFrom next n root) (start-left n root root-below) start-keeps
 
     -- It ends,
     pub postorder-ends : whole .stack ≡ []

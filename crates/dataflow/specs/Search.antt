@@ -23,6 +23,12 @@ pub record Sweep : Type 0 where
   -- the blocks taken from it, the latest first
   pub taken : List ℕ
 
+-- how many blocks are not visited
+abbrev pub unvisited : List Bool → ℕ
+unvisited [] = 0
+unvisited (true ∷ l) = unvisited l
+unvisited (false ∷ l) = suc (unvisited l)
+
 module _ (next : ℕ → List ℕ) where
   -- ── postorder ──
 

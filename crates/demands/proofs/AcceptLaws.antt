@@ -1,21 +1,19 @@
 -- An acceptance says what demands 2 and 3 ask. Assumes nothing.
 use mathlib.Core.Path.{_≡_, refl, sym, ap, subst, _∙_}
-use mathlib.Core.Bool.{Bool, true, false, _||_, false≢true}
+use mathlib.Core.Bool.{Bool, true, false, _||_}
 use mathlib.Core.List.{List, [], _∷_, _++_, map, List·Memᴰ, List·Memᴰ·head, List·Memᴰ·tail, List·Memᴰ·not-nil, List·Memᴰ·cases-cons}
 use mathlib.Core.Logic.{_⊎_, inl, inr, _↔_}
-use mathlib.Core.Option.{none, some}
-use Prim.Native.Nat.{ℕ, zero, suc, _+_, _*_, _/_, _≤_, _<_}
+use Prim.Native.Nat.{ℕ, zero, suc, _+_, _*_, _<_}
 use native.Mathlib.Decide.{decLt}
 use native.Mathlib.Omega.{arith}
 use lib.ListN.{length, getD, replicate}
 use Rattle.bitset.specs.Sets.{member, ones}
 use Rattle.bitset.proofs.SetLaws.{member-past}
 use Rattle.dataflow.specs.Program.{Program}
-use Rattle.dataflow.specs.Analyses.{written, filled}
+use Rattle.dataflow.specs.Analyses.{written}
 use Rattle.dataflow.specs.Paths.{Path, Reached}
-use Rattle.dataflow.specs.Demand.{Saves, Least, Faulty}
+use Rattle.dataflow.specs.Demand.{Least, Faulty}
 use Rattle.dataflow.specs.Code.{Instruction, program, successors}
-use Rattle.dataflow.specs.Checked.{Checked}
 use Rattle.dataflow.specs.Results.{blockCount}
 use Rattle.dataflow.specs.Verdict.{awaitAt, accepts}
 use Rattle.dataflow.proofs.Lists.{mem-getD}
@@ -27,9 +25,9 @@ use Rattle.memory.specs.Names.{initializedRow, liveRow}
 use Rattle.answer.specs.Words.{wordsOf}
 use Rattle.answer.proofs.WordLaws.{words-of, wordsOf-means}
 use Rattle.fixed_points.specs.FixedPoints.{Scripted}
-use Rattle.fixed_points.specs.PathSets.{ReachedBlock, FilledThrough, LiveFrom, PathSets}
+use Rattle.fixed_points.specs.PathSets.{ReachedBlock, FilledThrough, LiveFrom}
 use Rattle.verdict.specs.Points.{Point, points}
-use Rattle.verdict.specs.Ascending.{Ascending, instructionsOf}
+use Rattle.verdict.specs.Ascending.{Ascending}
 use Rattle.verdict.proofs.PointLaws.{points-ascend, point-awaits, point-least, point-clean, awaits-listed}
 use Rattle.outcome.specs.Buffers.{joined, blockSets, awaitWords}
 use Rattle.demands.specs.Held.{rowAt, initializedWords, liveWords, awaitInstruction, awaitSet}

@@ -1,12 +1,12 @@
 -- Demands 2 and 3 of the defined answer, and of the words that it leaves in the sets buffer. Assumes nothing.
 use mathlib.Core.Path.{_≡_, refl, sym, ap, subst, _∙_}
-use mathlib.Core.Bool.{Bool, true, false}
-use mathlib.Core.List.{List, [], _∷_, _++_}
-use mathlib.Core.Logic.{_⊎_, inl, inr, _↔_}
+use mathlib.Core.Bool.{true}
+use mathlib.Core.List.{List, _++_}
+use mathlib.Core.Logic.{_⊎_, inl, inr}
 use mathlib.Core.Option.{Option, none, some}
-use Prim.Native.Nat.{ℕ, _+_, _*_, _-_, _/_, _≤_, _<_}
+use Prim.Native.Nat.{ℕ, _+_, _*_, _/_, _≤_}
 use native.Mathlib.Omega.{arith}
-use lib.ListN.{length, replicate}
+use lib.ListN.{length}
 use Rattle.dataflow.specs.Lists.{range}
 use Rattle.dataflow.specs.Demand.{Unfilled, Held}
 use Rattle.dataflow.specs.Checked.{Checked}
@@ -16,16 +16,13 @@ use Rattle.budget.specs.declared.FlowBudget.{FlowBudget}
 use Rattle.budget.specs.declared.Limits.{Limits}
 use Rattle.format.specs.declared.refusal.Refusal.{Refusal}
 use Rattle.format.specs.declared.refusal.Refusal.the-variants.{NoRoom, StateLimit, WorkLimit, UnfilledSlot, HostOverAwait, FactsLimit}
-use Rattle.format.specs.Refusals.{numberOf}
-use Rattle.sheet.specs.declared.script.Script.{Script}
-use Rattle.sheet.specs.declared.script.Checked.the-variants.{Passed}
-use Rattle.sheet.specs.Decode.{partsOf, refusal, idOf}
+use Rattle.sheet.specs.Decode.{refusal, idOf}
 use Rattle.sheet.specs.Checks.{scriptOf, checkedOf, checkedBy}
 use Rattle.instructions.specs.Sound.{Sound}
 use Rattle.instructions.proofs.Sound.{sound}
 use Rattle.fixed_points.specs.FixedPoints.{Scripted}
 use Rattle.verdict.specs.Points.{Checking, stop, on, pointsRun, points}
-use Rattle.verdict.proofs.RunLaws.{passes, unfilled-given, held-given, accepted-iff}
+use Rattle.verdict.proofs.RunLaws.{passes, unfilled-given, held-given}
 use Rattle.outcome.specs.Outcome.{Lengths, Outcome, accepted, refused, outcomeOf}
 use Rattle.outcome.specs.Buffers.{joined, blockSets, awaitWords, setsAfter}
 use Rattle.outcome.proofs.ScriptedLaws.{scripted, scripted-slots}
@@ -45,7 +42,7 @@ use Rattle.demands.specs.Table.{
   facts-limit,
   acceptance,
 }
-use Rattle.demands.proofs.TableLaws.{table, due-given}
+use Rattle.demands.proofs.TableLaws.{table}
 use Rattle.demands.proofs.SheetNumbers.{sheet-number}
 use Rattle.demands.proofs.AcceptLaws.{
   not-faulty,

@@ -1,18 +1,16 @@
 -- The refusal table: an answer is given exactly if it is due. Assumes nothing.
 use mathlib.Core.Path.{_≡_, refl, sym, ap, subst, _∙_}
 use mathlib.Core.Bool.{Bool, true, false}
-use mathlib.Core.List.{List, [], _∷_, _++_}
+use mathlib.Core.List.{List, _∷_, _++_}
 use mathlib.Core.Logic.{_⊎_, inl, inr, _↔_}
 use mathlib.Core.Option.{Option, none, some}
 use Prim.Native.Nat.{ℕ, _*_, _≤_, _<_}
 use native.Mathlib.Decide.{decLt}
 use native.Mathlib.Omega.{arith}
 use borrow.Author.Tests.{le-ltb, lt-ltb}
-use lib.Dec.{ltb}
 use lib.ListN.{length}
 use Rattle.dataflow.specs.Lists.{pick}
 use Rattle.dataflow.specs.Charges.{leaderCharges, operandCharges, reachabilityCharges}
-use Rattle.dataflow.specs.Results.{blockCount}
 use Rattle.budget.specs.declared.FlowBudget.{FlowBudget}
 use Rattle.budget.specs.declared.Limits.{Limits}
 use Rattle.budget.specs.declared.Charged.{Charged}
@@ -24,7 +22,7 @@ use Rattle.rooms.specs.declared.Staged.{Staged}
 use Rattle.rooms.specs.declared.Staged.the-variants as staging
 use Rattle.rooms.specs.Rooms.{roomsOf, ifMet}
 use Rattle.sheet.specs.declared.script.Script.{Script}
-use Rattle.sheet.specs.Decode.{partsOf, refusal, idIn, idOf, idAfter}
+use Rattle.sheet.specs.Decode.{refusal, idIn, idOf, idAfter}
 use Rattle.sheet.specs.Checks.{scriptOf, checkedOf, checkedBy}
 use Rattle.sheet.proofs.Checked.{clean}
 use Rattle.graph.specs.Graph.{graphOf, ifOk, stage}

@@ -2,7 +2,7 @@
 -- `refusal`, whose rows stand in crates/sheet/specs/Rows.antt. The law `table` says that each answer is given exactly if it is due.
 use mathlib.Core.Path.{_≡_}
 use mathlib.Core.Bool.{Bool, true, false}
-use mathlib.Core.List.{List, [], _∷_, _++_}
+use mathlib.Core.List.{List, _∷_, _++_}
 use mathlib.Core.Option.{none, some}
 use Prim.Native.Nat.{ℕ, _*_, _≤_, _<_}
 use lib.ListN.{length}
@@ -16,9 +16,8 @@ use Rattle.format.specs.declared.refusal.Refusal.{Refusal}
 use Rattle.format.specs.declared.refusal.Refusal.the-variants.{NoRoom, StateLimit, WorkLimit, UnfilledSlot, HostOverAwait, FactsLimit}
 use Rattle.memory.specs.declared.layout.Layout.{Layout}
 use Rattle.rooms.specs.Rooms.{layoutOf, shortOf}
-use Rattle.sheet.specs.Decode.{partsOf, refusal, idOf}
+use Rattle.sheet.specs.Decode.{refusal, idOf}
 use Rattle.sheet.specs.Checks.{scriptOf}
-use Rattle.script.specs.Script.{flowCode, parameterIn, hostIn}
 use Rattle.fixed_points.specs.FixedPoints.{fixedPointsCharges}
 use Rattle.verdict.specs.Points.{Checking, stop, on, pointsRun, points}
 use Rattle.outcome.specs.Outcome.{Lengths, Outcome, accepted, refused}

@@ -1,16 +1,16 @@
 -- The stack and the marks in the words: as the search begins, and a block that joins. Assumes nothing.
 use mathlib.Core.Path.{_≡_, refl, sym, ap, ap₂, _∙_, subst}
-use mathlib.Core.Logic.{_≢_}
-use mathlib.Core.Bool.{Bool, true, false, true≢false}
+use mathlib.Core.Bool.{Bool, true, false}
 use mathlib.Core.List.{List, [], _∷_}
 use Prim.Native.Nat.{ℕ, zero, suc, _+_, _<_}
 use native.Mathlib.Numerals.{add-one}
 use native.Mathlib.Omega.{arith}
 use native.Mathlib.Decide.{ℕ-discrete}
-use lib.ListN.{length, getD, set, replicate, length-set, length-replicate}
+use lib.ListN.{getD, set, replicate, length-set, length-replicate}
 use lib.Seq.{getD-set-same, getD-set-other}
-use Rattle.dataflow.specs.Search.{Sweep, add}
+use Rattle.dataflow.specs.Search.{Sweep, unvisited, add}
 use Rattle.dataflow.proofs.Lists.{getD-same}
+use Rattle.dataflow.proofs.Reachability.{unvisited-set, unvisited-all}
 use Rattle.memory.specs.Cells.{Mem, cell, word, store}
 use Rattle.memory.specs.Names.{flag, reachableCell, stackBlockCell, successorCell, successorCountCell}
 use Rattle.memory.specs.Scratch.{scratchWidths}
@@ -18,7 +18,7 @@ use Rattle.memory.specs.declared.layout.Layout.{Layout}
 use Rattle.memory.proofs.CellLaws.{Sized, sized-store, word-store-other}
 use Rattle.memory.proofs.ScratchLaws.{word-put, place-blocks}
 use Rattle.edges.specs.Edges.{Holds, Cleared}
-use Rattle.edges.specs.Stack.{stackOf, unvisited, Sweeps, Begun, OnlySearch}
+use Rattle.edges.specs.Stack.{stackOf, Sweeps, Begun, OnlySearch}
 use Rattle.edges.proofs.EdgeLaws.{cell-kept, holds-kept}
 
 -- ---- only the two cells of the search change
@@ -41,18 +41,6 @@ search-stored m m₁ m₂ i v j w e₁ e₂ = record {
   others = λ k a b. ap (λ (x : Mem). cell x k) e₂ ∙ cell-kept m₁ stackBlockCell j w k b ∙ ap (λ (x : Mem). cell x k) e₁
       ∙ cell-kept m reachableCell i v k a;
 }
-
--- ---- blocks that are not visited
-pub unvisited-set : (l : List Bool) (i : ℕ) → i < length l → getD l i false ≡ false → suc (unvisited (set l i true)) ≡ unvisited l
-unvisited-set [] i lt e = absurd (omega arith)
-unvisited-set (true ∷ l) zero lt e = absurd (true≢false e)
-unvisited-set (false ∷ l) zero lt e = refl
-unvisited-set (true ∷ l) (suc i) lt e = unvisited-set l i (omega arith) e
-unvisited-set (false ∷ l) (suc i) lt e = ap suc (unvisited-set l i (omega arith) e)
-
-unvisited-all : (n : ℕ) → unvisited (replicate n false) ≡ n
-unvisited-all zero = refl
-unvisited-all (suc n) = ap suc (unvisited-all n)
 
 -- ---- the stack
 stack-same : (m m′ : Mem) (n : ℕ) → ((i : ℕ) → i < n → word m′ stackBlockCell i ≡ word m stackBlockCell i) → stackOf m′ n ≡ stackOf m n

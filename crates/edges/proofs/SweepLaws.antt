@@ -1,6 +1,6 @@
 -- The search from the words: the successors of a block, the turns, and the charges. Assumes nothing.
 use mathlib.Core.Path.{_≡_, refl, sym, ap, _∙_, subst}
-use mathlib.Core.Bool.{Bool, true, false}
+use mathlib.Core.Bool.{false}
 use mathlib.Core.List.{List, [], _∷_, map}
 use Prim.Native.Nat.{ℕ, zero, suc, _+_, _-_, _*_, _≤_, _<_}
 use native.Mathlib.Numerals.{add-one}
@@ -9,6 +9,7 @@ use lib.ListN.{length, getD, drop, replicate, drop-of-length-le}
 use lib.Seq.{drop-cons}
 use Rattle.dataflow.specs.Lists.{sum}
 use Rattle.dataflow.specs.Search.{Sweep, add, addAll, onNext, takeTop, sweep, sweepFrom}
+use Rattle.dataflow.proofs.Reachability.{add-taken}
 use Rattle.memory.specs.Cells.{Mem, word}
 use Rattle.memory.specs.Names.{flag, reachableCell, stackBlockCell, successorCell, successorCountCell}
 use Rattle.memory.specs.declared.layout.Layout.{Layout}
@@ -100,13 +101,9 @@ module _ (next : ℕ → List ℕ) where
   abbrev pub edgesOf : List ℕ → ℕ
   edgesOf bs = sum (map (λ b. length (next b)) bs)
 
-  add-taken : (t : Bool) (c : ℕ) (r : Sweep) → add next t c r .taken ≡ r .taken
-  add-taken true c r = refl
-  add-taken false c r = refl
-
   all-taken : (cs : List ℕ) (r : Sweep) → addAll next cs r .taken ≡ r .taken
   all-taken [] r = refl
-  all-taken (c ∷ cs) r = all-taken cs (add next (getD (r .visited) c false) c r) ∙ add-taken (getD (r .visited) c false) c r
+  all-taken (c ∷ cs) r = all-taken cs (add next (getD (r .visited) c false) c r) ∙ add-taken next (getD (r .visited) c false) c r
 
   top-edges : (b : ℕ) (q : List ℕ) (r : Sweep) → edgesOf (takeTop next b q r .taken) ≡ length (next b) + edgesOf (r .taken)
   top-edges b q r = ap edgesOf (all-taken (next b) (record { pending = q; visited = r .visited; taken = b ∷ r .taken }))

@@ -2,7 +2,7 @@
 use mathlib.Core.Path.{_≡_}
 use mathlib.Core.Bool.{Bool, false}
 use mathlib.Core.List.{List}
-use Prim.Native.Nat.{ℕ, _+_, _*_, _<_}
+use Prim.Native.Nat.{ℕ, _<_}
 use lib.ListN.{replicate}
 use Rattle.bitset.specs.Sets.{member, ones}
 use Rattle.dataflow.specs.Blocks.{uses, defines}

@@ -1,10 +1,10 @@
 -- The stack and the marks of the search in the words of scratch: what the private functions of src/reachability.rt do.
 use mathlib.Core.Path.{_≡_}
-use mathlib.Core.Bool.{Bool, true, false}
+use mathlib.Core.Bool.{false}
 use mathlib.Core.List.{List, [], _∷_}
 use Prim.Native.Nat.{ℕ, zero, suc, _+_, _≤_, _<_}
 use lib.ListN.{length, getD, replicate}
-use Rattle.dataflow.specs.Search.{Sweep, add, addAll, sweepFrom}
+use Rattle.dataflow.specs.Search.{Sweep, unvisited, add, addAll, sweepFrom}
 use Rattle.memory.specs.Cells.{Mem, cell, word}
 use Rattle.memory.specs.Names.{flag, reachableCell, stackBlockCell}
 use Rattle.memory.specs.declared.layout.Layout.{Layout}
@@ -32,12 +32,6 @@ chargedOf (pushed.Over b) = Over b
 abbrev pub stackOf : Mem → ℕ → List ℕ
 stackOf m zero = []
 stackOf m (suc n) = word m stackBlockCell n ∷ stackOf m n
-
--- how many blocks are not visited
-abbrev pub unvisited : List Bool → ℕ
-unvisited [] = 0
-unvisited (true ∷ l) = unvisited l
-unvisited (false ∷ l) = suc (unvisited l)
 
 -- The words hold the search: `top` blocks on the stack, and the marks. The stack has room for each block that is not visited.
 pub record Sweeps (y : Layout) (top : ℕ) (r : Sweep) (m : Mem) : Type 0 where

@@ -3,7 +3,7 @@ use mathlib.Core.Path.{_≡_, refl, sym, ap, ap₂, _∙_}
 use mathlib.Core.Bool.{Bool, true, false, not, _&&_, _||_, true≢false, and-assoc, or-assoc, and-comm, or-comm, and-true, or-false}
 use mathlib.Core.List.{List, [], _∷_, map, List·Memᴰ, List·Memᴰ·not-nil, List·Memᴰ·cases-cons}
 use mathlib.Core.Logic.{_⊎_, inl, inr}
-use Prim.Native.Nat.{ℕ, zero, suc, _+_, _*_, _/_, _<_}
+use Prim.Native.Nat.{ℕ, zero, suc, _*_, _/_, _<_}
 use native.Mathlib.Omega.{arith}
 use native.Mathlib.Decide.{ℕ-discrete}
 use native.Mathlib.Nat.{zero-add}
@@ -21,7 +21,7 @@ use Rattle.dataflow.specs.FlowGraph.{framework}
 use Rattle.dataflow.specs.Results.{reachable, flowGraph}
 use Rattle.dataflow.proofs.Bits.{same-bits, bits-same}
 use Rattle.dataflow.proofs.Blocks.{init-gen-kill, init-by-defines, uses-exposed, defines-written}
-use Rattle.dataflow.proofs.Lists.{getD-tabulate}
+use Rattle.dataflow.proofs.Lists.{getD-tabulate, tabulate-among}
 use Rattle.dataflow.proofs.Simulation.{Agrees, Each}
 use Rattle.memory.specs.Cells.{Mem, cell, word}
 use Rattle.memory.specs.Names.{flag, reachableCell, usesRow, definesRow, parametersRow}
@@ -48,20 +48,9 @@ bitsOf n ws = tabulate 0 n (member ws)
 pub bits-at : (n : ℕ) (ws : List ℕ) (i : ℕ) (v : Bool) → i < n → getD (bitsOf n ws) i v ≡ member ws i
 bits-at n ws i v lt = getD-tabulate 0 n i (member ws) v lt ∙ ap (member ws) (zero-add i)
 
--- tables of n places from k on that agree there
-tabulate-in : (k n : ℕ) (f g : ℕ → Bool) → ((i : ℕ) → i < k + n → f i ≡ g i) → tabulate k n f ≡ tabulate k n g
-tabulate-in k zero f g h = refl
-tabulate-in k (suc n) f g h =
-    ap₂ (λ (a : Bool) (l : List Bool). a ∷ l) (h k (omega arith)) (tabulate-in (suc k) n f g (λ i lt. h i (omega arith)))
-
 -- a table of the members is the bits
 pub bits-are : (n : ℕ) (ws : List ℕ) (f : ℕ → Bool) → ((i : ℕ) → i < n → f i ≡ member ws i) → tabulate 0 n f ≡ bitsOf n ws
-bits-are n ws f h = tabulate-in 0 n f (member ws) (λ i lt. h i (omega arith))
-
--- a table of one value
-pub tabulate-same : (k n : ℕ) (v : Bool) → tabulate k n (λ i. v) ≡ replicate n v
-tabulate-same k zero v = refl
-tabulate-same k (suc n) v = ap (λ (l : List Bool). v ∷ l) (tabulate-same (suc k) n v)
+bits-are n ws f h = tabulate-among 0 n f (member ws) (λ i lo hi. h i (omega arith))
 
 -- rows are the same exactly if their bits are
 pub same-is : {w : ℕ} {xs ys : List ℕ} → Words w xs → Words w ys → sameBits (bitsOf (64 * w) xs) (bitsOf (64 * w) ys) ≡ same xs ys

@@ -1,7 +1,7 @@
 -- The three stages of `fixed_points` put together: what stays between them, and the answer for each way to stop. Assumes nothing.
 use mathlib.Core.Path.{_≡_, sym, ap, _∙_}
-use mathlib.Core.Bool.{Bool, true, false, false≢true}
-use mathlib.Core.List.{List, _++_, reverse}
+use mathlib.Core.Bool.{Bool}
+use mathlib.Core.List.{List, reverse}
 use Prim.Native.Nat.{ℕ, _+_, _*_, _^_, _≤_, _<_}
 use native.Mathlib.Omega.{arith}
 use lib.ListN.{length, getD, take}
@@ -13,8 +13,8 @@ use Rattle.budget.specs.declared.FlowBudget.{FlowBudget}
 use Rattle.budget.specs.declared.Limits.{Limits}
 use Rattle.budget.specs.declared.Charged.{Charged}
 use Rattle.budget.specs.declared.Charged.the-variants.{Ok, Over}
-use Rattle.budget.specs.Budget.{charged, andCharged}
-use Rattle.budget.proofs.BudgetLaws.{charged-append}
+use Rattle.budget.specs.Budget.{charged}
+use Rattle.budget.proofs.BudgetLaws.{met-then, over-then, over-not-ok}
 use Rattle.memory.specs.Cells.{Mem, cell}
 use Rattle.memory.specs.Names.{reachableCell, successorCountCell, firstEdgeCell, predecessorCountCell, orderCell}
 use Rattle.memory.specs.Names.{successorCell, nextEdgeCell, usesRow, definesRow, parametersRow, initializedRow, liveRow}
@@ -102,25 +102,6 @@ fresh-round {left = left} p e h =
 pub initialized-round : {y : Layout} {l : Limits} {b : FlowBudget} {n : ℕ} {m m′ t t′ : Mem} {r : Charged} {left : FlowBudget}
     → Propagated Liveness y l b n m m′ t t′ r → r ≡ Ok left → (c : ℕ) → cell t′ (initializedRow c) ≡ cell t (initializedRow c)
 initialized-round {left = left} p e c = p .other-sets left e (initializedRow c) (λ c′ lt′ q. omega arith)
-
--- ---- charges
-
--- a crossed limit is none that was met
-over-not-ok : {x left : FlowBudget} → Over x ≡ Ok left → ⊥
-over-not-ok e = false≢true (ap isOk e)
-  where
-    isOk : Charged → Bool
-    isOk (Ok x) = true
-    isOk (Over x) = false
-
-module _ (l : Limits) (b : FlowBudget) (cs ds : List ℕ) where
-  -- charges that were met, then further ones
-  met-then : {left : FlowBudget} → charged l b cs ≡ Ok left → charged l b (cs ++ ds) ≡ charged l left ds
-  met-then e = charged-append l b cs ds ∙ ap (λ (c : Charged). andCharged c (λ b′. charged l b′ ds)) e
-
-  -- charges that crossed the limit, whatever was to follow
-  over-then : {x : FlowBudget} → charged l b cs ≡ Over x → charged l b (cs ++ ds) ≡ Over x
-  over-then e = charged-append l b cs ds ∙ ap (λ (c : Charged). andCharged c (λ b′. charged l b′ ds)) e
 
 -- ---- after the search
 module _ {code : List Instruction} {parameter : ℕ → Bool} {y : Layout} {l : Limits} {b : FlowBudget} {m m′ : Mem} {o : Ordered}

@@ -26,12 +26,12 @@ use Rattle.solver.specs.declared.direction.Direction.the-variants.{Initializati
 use Rattle.solver.specs.Neighbors.{readsOf, neighbors}
 use Rattle.solver.specs.Transfer.{keptRow, entryOf, gatherOne, gatherAll, gathered}
 use Rattle.propagate.specs.Rounds.{rowsOf, gatherRow, gatherRows}
-use Rattle.propagate.proofs.Fixed.{kept-among, rows-at}
+use Rattle.propagate.proofs.Fixed.{kept-among, rows-at, rows-long}
 use Rattle.fixed_points.specs.FixedPoints.{Scripted, Sets, Fixed}
 use Rattle.fixed_points.proofs.CodeGraph.{connected, edges-in}
 use Rattle.fixed_points.proofs.Bits.{bitsOf, below-each, Table, RowsOfWords, entry-words, entry-init, entry-live}
 use Rattle.fixed_points.proofs.Bits.{gathers-words, gathers-init, gathers-live}
-use Rattle.fixed_points.proofs.RoundLaws.{rows-long, rows-bit}
+use Rattle.fixed_points.proofs.RoundLaws.{rows-bit}
 use Rattle.fixed_points.proofs.FixedLaws.{Stays, flows-stay}
 
 -- every row of the sets buffer is of words

@@ -1,20 +1,19 @@
 -- The rows that the two rounds end with are the sets by paths: demand 2 on rows. Assumes nothing.
-use mathlib.Core.Path.{_≡_, refl, sym, ap, subst, _∙_}
+use mathlib.Core.Path.{_≡_, refl, sym, ap, _∙_}
 use mathlib.Core.Logic.{_↔_}
 use mathlib.Core.Bool.{Bool, true, false, _||_, false≢true}
 use mathlib.Core.List.{List, [], _∷_, _++_}
-use Prim.Native.Nat.{ℕ, _*_, _/_, _≤_, _<_}
+use Prim.Native.Nat.{ℕ, _*_, _≤_, _<_}
 use native.Mathlib.Decide.{decLt}
 use native.Mathlib.Omega.{arith}
-use lib.ListN.{length, getD, replicate, getD-replicate}
+use lib.ListN.{getD, getD-replicate}
 use Rattle.bitset.specs.Sets.{member, ones, Words}
 use Rattle.bitset.proofs.SetLaws.{member-past, member-zero, member-ones, same-exact, words-replicate}
-use Rattle.dataflow.specs.Analyses.{initialization, liveness, filled, written, InitAfter, Live}
+use Rattle.dataflow.specs.Analyses.{initialization, liveness, filled, written}
 use Rattle.dataflow.specs.Blocks.{blockProgram}
-use Rattle.dataflow.specs.Code.{Instruction, program, successors, body, headOr, lastOr, blockGraph}
-use Rattle.dataflow.specs.Framework.{bitAt}
-use Rattle.dataflow.specs.Paths.{Path, Reached}
-use Rattle.dataflow.specs.Results.{blockCount, reachable, result, initExit, liveEntry, flowGraph, seed}
+use Rattle.dataflow.specs.Code.{Instruction, program, body, lastOr, blockGraph}
+use Rattle.dataflow.specs.Paths.{Reached}
+use Rattle.dataflow.specs.Results.{blockCount, reachable, liveEntry, flowGraph, seed}
 use Rattle.dataflow.proofs.Analyses.{filled-plain}
 use Rattle.dataflow.proofs.CodeBlocks.{basic-blocks, reached-iff}
 use Rattle.dataflow.proofs.FlowGraph.{live-entry-row}

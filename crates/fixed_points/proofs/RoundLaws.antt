@@ -18,7 +18,7 @@ use Rattle.dataflow.specs.Worklist as worklist
 use Rattle.dataflow.specs.Framework.{Framework, bitAt, solverOf, begin, enough, solution}
 use Rattle.dataflow.specs.Results.{blockCount, predecessors, swept, searched, seed, result}
 use Rattle.dataflow.specs.Charges.{visitCharges, traceCharges, propagateCharges}
-use Rattle.dataflow.proofs.Lists.{length-tabulate}
+use Rattle.dataflow.proofs.Lists.{tabulate-same}
 use Rattle.dataflow.proofs.Results.{seed-sound, result-ends}
 use Rattle.dataflow.proofs.Simulation.{Each, seen, run-seen}
 use Rattle.dataflow.proofs.Worklist.{run-more, run-fuel}
@@ -41,13 +41,13 @@ use Rattle.solver.specs.Transfer.{keptRow}
 use Rattle.solver.specs.Run.{queueOf}
 use Rattle.propagate.specs.Rounds.{marked, rowsOf, rowSolver, beginning, roundRun, roundCharges, Propagated}
 use Rattle.propagate.proofs.RingWords.{marks-at}
-use Rattle.propagate.proofs.Fixed.{rows-at}
+use Rattle.propagate.proofs.Fixed.{rows-at, rows-long}
 use Rattle.propagate.proofs.Visits.{chargesOf, run-charges, run-parts}
 use Rattle.edges.specs.Flow.{Flows, Fresh}
 use Rattle.fixed_points.specs.FixedPoints.{Scripted}
 use Rattle.fixed_points.specs.Stages.{InOrder}
 use Rattle.fixed_points.proofs.CodeGraph.{directionOf, neighbors-are, reachable-are}
-use Rattle.fixed_points.proofs.Bits.{bitsOf, bits-at, bits-are, tabulate-same, map-at, Table, RowsOfWords, frameOf, agrees}
+use Rattle.fixed_points.proofs.Bits.{bitsOf, bits-at, bits-are, map-at, Table, RowsOfWords, frameOf, agrees}
 
 -- ---- rows as they begin
 
@@ -90,16 +90,11 @@ map-tabulate {B = B} h v k (suc n) f e =
     ap₂ (λ (x : B) (l : List B). x ∷ l) (e k (omega arith)) (map-tabulate h v (suc k) n f (λ i lt. e i (omega arith)))
 
 module _ (d : Direction) (y : Layout) (t : Mem) where
-  -- one row a block
-  pub rows-long : length (rowsOf d y t) ≡ y .blocks
-  unfolding rowsOf
-  rows-long = length-tabulate 0 (y .blocks) (λ c. cell t (keptRow d c))
-
   -- a bit of a row that a round keeps
   pub rows-bit : (v : Bool) (c i : ℕ) → c < y .blocks → i < 64 * y .words
       → bitAt v (map (bitsOf (64 * y .words)) (rowsOf d y t)) c i ≡ member (cell t (keptRow d c)) i
   rows-bit v c i lc li =
-      ap (λ (l : List Bool). getD l i v) (map-at (bitsOf (64 * y .words)) (rowsOf d y t) c [] [] (omega (arith, rows-long)))
+      ap (λ (l : List Bool). getD l i v) (map-at (bitsOf (64 * y .words)) (rowsOf d y t) c [] [] (omega (arith, rows-long d y t)))
       ∙ bits-at (64 * y .words) (getD (rowsOf d y t) c []) i v li ∙ ap (λ (l : List ℕ). member l i) (rows-at d y t c lc)
 
 module _ {d : Direction} {y : Layout} {t : Mem} (fresh : FreshIn d y t) where

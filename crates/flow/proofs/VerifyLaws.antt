@@ -1,9 +1,7 @@
 -- `verify` does what its contract says, by what its calls do. Assumes nothing.
 use mathlib.Core.Path.{_≡_, refl, sym, ap, subst, _∙_}
-use mathlib.Core.Bool.{Bool}
-use mathlib.Core.Logic.{_↔_}
-use mathlib.Core.List.{List, [], _∷_, _++_, append-assoc}
-use Prim.Native.Nat.{ℕ, _+_, _*_, _-_, _/_, _%_, _≤_, _<_}
+use mathlib.Core.List.{List, _++_, append-assoc}
+use Prim.Native.Nat.{ℕ, _+_, _*_, _-_, _/_, _%_, _≤_}
 use native.Mathlib.Omega.{arith}
 use lib.ListN.{length, replicate, replicate-append-replicate}
 use Rattle.dataflow.specs.Lists.{range}
@@ -12,11 +10,10 @@ use Rattle.budget.specs.declared.FlowBudget.{FlowBudget}
 use Rattle.budget.specs.declared.Limits.{Limits}
 use Rattle.budget.specs.Budget.{todays}
 use Rattle.memory.specs.declared.layout.Layout.{Layout}
-use Rattle.memory.specs.Cells.{Mem}
 use Rattle.memory.specs.Scratch.{scratch, Room}
 use Rattle.sheet.specs.Decode.{partsOf}
 use Rattle.script.specs.Script.{flowCode, parameterIn}
-use Rattle.outcome.specs.Outcome.{Lengths, Outcome, accepted, refused, outcomeOf}
+use Rattle.outcome.specs.Outcome.{Lengths, Outcome, outcomeOf}
 use Rattle.outcome.specs.Buffers.{joined, padded, blockRecord, listAfter, setsAfter}
 use Rattle.outcome.proofs.JoinedLaws.{joined-length}
 use Rattle.demands.proofs.TableLaws.{table}

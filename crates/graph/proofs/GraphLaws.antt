@@ -12,8 +12,8 @@ use Rattle.budget.specs.declared.FlowBudget.{FlowBudget}
 use Rattle.budget.specs.declared.Limits.{Limits}
 use Rattle.budget.specs.declared.Charged.{Charged}
 use Rattle.budget.specs.declared.Charged.the-variants as charging
-use Rattle.budget.specs.Budget.{charged, budgetOf, andCharged}
-use Rattle.budget.proofs.BudgetLaws.{charged-append}
+use Rattle.budget.specs.Budget.{charged, budgetOf}
+use Rattle.budget.proofs.BudgetLaws.{met-then, over-then}
 use Rattle.format.specs.declared.refusal.Refusal.{Refusal}
 use Rattle.format.specs.declared.refusal.Refusal.the-variants.{WorkLimit}
 use Rattle.memory.specs.Cells.{Mem, cell, storeCell, total}
@@ -107,15 +107,11 @@ met (charging.Over b) y y′ left e = let o : _≡_ {A = ℕ} 0 1 = cc in absurd
 module _ (l : Limits) (b : FlowBudget) (cs ds : List ℕ) (y : Layout) (c : Charged) (ec : c ≡ charged l b cs) where
   -- the first crossed the limit
   stage-over : (z : FlowBudget) → c ≡ charging.Over z → Refused WorkLimit z ≡ stage l (cs ++ ds) y b
-  stage-over z eo =
-      ap (λ (d : Charged). ifMet (andCharged d (λ x. charged l x ds)) (Ok y)) (sym eo ∙ ec)
-      ∙ ap (λ (d : Charged). ifMet d (Ok y)) (sym (charged-append l b cs ds))
+  stage-over z eo = ap (λ (d : Charged). ifMet d (Ok y)) (sym (over-then l b cs ds (sym ec ∙ eo)))
 
   -- the first were met
   stage-on : (left : FlowBudget) → c ≡ charging.Ok left → ifMet (charged l left ds) (Ok y) ≡ stage l (cs ++ ds) y b
-  stage-on left eo =
-      ap (λ (d : Charged). ifMet (andCharged d (λ x. charged l x ds)) (Ok y)) (sym eo ∙ ec)
-      ∙ ap (λ (d : Charged). ifMet d (Ok y)) (sym (charged-append l b cs ds))
+  stage-on left eo = ap (λ (d : Charged). ifMet d (Ok y)) (sym (met-then l b cs ds (sym ec ∙ eo)))
 
 -- ---- `build`
 

@@ -1,9 +1,8 @@
 -- `graph` and `reachability` of flow.rs: the answer, and what both buffers hold where it goes on.
 use mathlib.Core.Path.{_≡_}
-use mathlib.Core.List.{List, [], _∷_, _++_}
+use mathlib.Core.List.{List, _∷_, _++_}
 use Prim.Native.Nat.{ℕ, _<_}
 use lib.ListN.{length}
-use Rattle.dataflow.specs.Code.{blockSuccessors}
 use Rattle.dataflow.specs.Charges.{leaderCharges, operandCharges, reachabilityCharges}
 use Rattle.dataflow.specs.Results.{blockCount}
 use Rattle.budget.specs.declared.FlowBudget.{FlowBudget}

@@ -31,7 +31,7 @@ use Rattle.rooms.proofs.RoomLaws.{rooms-yes}
 use Rattle.graph.specs.Graph.{ifOk, stage, graphOf, Graphed}
 use Rattle.outcome.specs.Outcome.{Outcome, refused, afterGraph, judged}
 use Rattle.judge.specs.declared.Judged.{Judged}
-use Rattle.judge.specs.declared.Judged.the-variants.{Accepted, Refused}
+use Rattle.judge.specs.declared.Judged.the-variants.{Refused}
 use Rattle.judge.specs.Judge.{outcomeBy, refusedAt, Begun, Solves, Accepts, Judges}
 
 -- ---- where `graph` goes on, its layout is that of the script

@@ -7,9 +7,10 @@ use native.Mathlib.Numerals.{add-one}
 use native.Mathlib.Omega.{arith}
 use lib.ListN.{length}
 use Rattle.dataflow.specs.Lists.{sum, tabulate}
+use Rattle.dataflow.proofs.Lists.{tabulate-append}
 use Rattle.listing.specs.Lines.{slotsAt, loadOf}
 use Rattle.listing.specs.Text.{Answered, Loaded}
-use Rattle.listing.proofs.SlotLaws.{tabulate-snoc, slots-few}
+use Rattle.listing.proofs.SlotLaws.{slots-few}
 
 -- how many slots the k-th await has, with the first at word `first`
 abbrev pub countAt : List ℕ → ℕ → ℕ → ℕ → ℕ
@@ -48,7 +49,7 @@ module _ {v : List ℕ} {w first awaits k at total : ℕ} (counted : Counted v w
         few = omega (arith, counted .few, slots-few v w (at + 1));
         is =
             ap₂ _+_ (counted .is) (e ∙ ap (λ (p : ℕ). length (slotsAt v w (p + 1))) (counted .place))
-            ∙ sym (ap sum (tabulate-snoc 0 k (countAt v w first) ∙ ap (λ (j : ℕ). tabulate 0 k (countAt v w first) ++ (countAt v w first j ∷ [])) z)
+            ∙ sym (ap sum (tabulate-append 0 k 1 (countAt v w first) ∙ ap (λ (j : ℕ). tabulate 0 k (countAt v w first) ++ (countAt v w first j ∷ [])) z)
             ∙ sum-append (tabulate 0 k (countAt v w first)) (countAt v w first k ∷ [])
             ∙ ap (λ (x : ℕ). sum (tabulate 0 k (countAt v w first)) + x) (omega arith));
       }

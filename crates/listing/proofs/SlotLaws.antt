@@ -2,40 +2,19 @@
 use mathlib.Core.Path.{_≡_, refl, sym, ap, ap₂, _∙_, subst}
 use mathlib.Core.Bool.{Bool, true, false}
 use mathlib.Core.List.{List, [], _∷_, _++_}
-use Prim.Native.Nat.{ℕ, zero, suc, _+_, _*_, _/_, _%_, _≤_, _<_}
-use native.Mathlib.Nat.{add-zero}
-use native.Mathlib.Numerals.{add-one}
+use Prim.Native.Nat.{ℕ, _+_, _*_, _/_, _%_, _≤_, _<_}
 use native.Mathlib.Omega.{arith}
 use lib.Dec.{eqb}
 use lib.ListN.{length, take, drop, length-append}
 use lib.Seq.{getD-take}
 use Rattle.bitset.specs.Sets.{member, digit}
-use Rattle.dataflow.specs.Lists.{pick, tabulate, range, keep}
-use Rattle.dataflow.proofs.Lists.{length-tabulate}
+use Rattle.dataflow.specs.Lists.{pick, range, keep}
+use Rattle.dataflow.proofs.Lists.{length-tabulate, range-append, keep-append, keep-few}
 use Rattle.listing.specs.Lines.{spaced, slotsAt}
 use Rattle.listing.specs.Text.{Puts}
 use Rattle.listing.proofs.TextLaws.{puts-none, puts-then}
 use Rattle.listing.proofs.DigitLaws.{length-decimal}
 use Rattle.listing.proofs.LineLaws.{length-number, spaced-append}
-
--- ---- lists
-pub tabulate-snoc : {A : Type 0} (k n : ℕ) (f : ℕ → A) → tabulate k (n + 1) f ≡ tabulate k n f ++ (f (k + n) ∷ [])
-tabulate-snoc {A} k n f = ap (λ (m : ℕ). tabulate k m f) (add-one n) ∙ go k n
-  where
-    go : (k n : ℕ) → tabulate k (suc n) f ≡ tabulate k n f ++ (f (k + n) ∷ [])
-    go k zero = ap (λ (j : ℕ). f j ∷ []) (sym (add-zero k))
-    go k (suc n) =
-        let e : suc k + n ≡ k + suc n = omega arith in
-        ap (λ (t : List A). f k ∷ t) (go (suc k) n ∙ ap (λ (j : ℕ). tabulate (suc k) n f ++ (f j ∷ [])) e)
-
-keep-append : (f : ℕ → Bool) (xs ys : List ℕ) → keep f (xs ++ ys) ≡ keep f xs ++ keep f ys
-keep-append f [] ys = refl
-keep-append f (x ∷ xs) ys = go (f x) (keep-append f xs ys)
-  where
-    go : (b : Bool) → keep f (xs ++ ys) ≡ keep f xs ++ keep f ys
-        → pick b (x ∷ keep f (xs ++ ys)) (keep f (xs ++ ys)) ≡ pick b (x ∷ keep f xs) (keep f xs) ++ keep f ys
-    go true e = ap (λ (t : List ℕ). x ∷ t) e
-    go false e = e
 
 -- ---- the slots below a number
 member-row : (l : List ℕ) (w slot : ℕ) → slot < 64 * w → member (take w l) slot ≡ member l slot
@@ -49,7 +28,7 @@ slots-more : (v : List ℕ) (w base slot : ℕ) → slot < 64 * w
     → slotsBelow v w base (slot + 1) ≡ slotsBelow v w base slot ++ keep (member (drop base v)) (slot ∷ [])
 slots-more v w base slot h =
     let e : 0 + slot ≡ slot = omega arith in
-    ap (keep (member (take w (drop base v)))) (tabulate-snoc 0 slot (λ i. i) ∙ ap (λ (j : ℕ). range 0 slot ++ (j ∷ [])) e)
+    ap (keep (member (take w (drop base v)))) (range-append 0 slot 1 ∙ ap (λ (j : ℕ). range 0 slot ++ (j ∷ [])) e)
     ∙ keep-append (member (take w (drop base v))) (range 0 slot) (slot ∷ [])
     ∙ ap (λ (b : Bool). slotsBelow v w base slot ++ pick b (slot ∷ []) []) (member-row (drop base v) w slot h)
 
@@ -109,17 +88,9 @@ pub count-all : (v : List ℕ) (w base slot count : ℕ) → slot ≤ 64 * w →
 count-all v w base slot count h k e = e ∙ ap length (slots-all v w base slot h k)
 
 -- ---- how long it can be
-length-keep : (f : ℕ → Bool) (l : List ℕ) → length (keep f l) ≤ length l
-length-keep f [] = omega arith
-length-keep f (x ∷ l) = go (f x) (length-keep f l)
-  where
-    go : (b : Bool) → length (keep f l) ≤ length l → length (pick b (x ∷ keep f l) (keep f l)) ≤ suc (length l)
-    go true h = omega arith
-    go false h = omega arith
-
 pub slots-few : (v : List ℕ) (w base : ℕ) → length (slotsAt v w base) ≤ 64 * w
 slots-few v w base =
-    omega (arith, length-keep (member (take w (drop base v))) (range 0 (64 * w)), length-tabulate 0 (64 * w) (λ (i : ℕ). i))
+    omega (arith, keep-few (member (take w (drop base v))) (range 0 (64 * w)), length-tabulate 0 (64 * w) (λ (i : ℕ). i))
 
 length-spaced : (l : List ℕ) → length (spaced l) ≤ 21 * length l
 length-spaced [] = omega arith

@@ -1,14 +1,14 @@
 -- An instruction that parses is the one of its kind and bytes, and can be read. Assumes nothing.
 use mathlib.Core.Path.{_≡_, refl, sym, ap, ap₂, _∙_}
-use mathlib.Core.Bool.{Bool, true, false, _&&_, true≢false, false≢true}
+use mathlib.Core.Bool.{Bool, true, false, _&&_, false≢true}
 use mathlib.Core.List.{List}
-use Prim.Native.Nat.{ℕ, _+_, _*_, _/_, _%_, _≤_}
+use Prim.Native.Nat.{ℕ, _%_}
 use native.Mathlib.Omega.{arith}
 use lib.Dec.{eqb, leb}
 use lib.ListN.{length}
 use borrow.Author.Tests.{leb-true, eqb-true}
 use Rattle.operands.specs.Choice.{pick}
-use Rattle.operands.specs.Patterns.{fits, wordOf}
+use Rattle.operands.specs.Patterns.{wordOf}
 use Rattle.operands.specs.Instructions.{Known, Readable}
 use Rattle.operands.specs.declared.instruction.Instruction.{Instruction}
 use Rattle.operands.specs.declared.pattern.Pattern.{Pattern}

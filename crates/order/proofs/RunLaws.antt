@@ -6,6 +6,7 @@ use native.Mathlib.Omega.{arith}
 use lib.ListN.{length, getD, take, replicate, length-map, length-reverse}
 use lib.Seq.{length-take-le}
 use Rattle.dataflow.specs.Search.{Frame, Search, search, turns, searchFrom, allTurns}
+use Rattle.dataflow.proofs.Search.{turnsLeft, start-left, none-left}
 use Rattle.memory.specs.Cells.{Mem, cell, word}
 use Rattle.memory.specs.Scratch.{scratchWidths}
 use Rattle.memory.specs.declared.layout.Layout.{Layout}
@@ -21,7 +22,7 @@ use Rattle.order.specs.declared.Ordered.{Ordered}
 use Rattle.order.specs.declared.Ordered.the-variants.{Ok, Over}
 use Rattle.order.specs.Postorder.{searchedFrom, chargedIn, Searched}
 use Rattle.order.specs.Turns.{marked, stackOf, searchOf, turned, Good, Kept, Begun, Turned, Resumed}
-use Rattle.order.proofs.SearchEnd.{turnsLeft, search-step, search-stop, turns-step, turns-stop, turn-left, none-left, start-left, few-turns}
+use Rattle.order.proofs.SearchEnd.{search-step, search-stop, turns-step, turns-stop, turn-left, few-turns}
 use Rattle.order.proofs.FrameLaws.{frameAt, frames-none, stack-top, holds-kept, kept-trans, rest-below}
 use Rattle.order.proofs.TurnLaws.{wide, good-room}
 
@@ -42,7 +43,7 @@ module _ (next : ℕ → List ℕ) (y : Layout) (l : Limits) (b : FlowBudget) wh
     where
       first : Way (searchFrom next (y .blocks) 0) b 0
       first =
-          let s = start-left next (y .blocks) h in
+          let s = start-left next (y .blocks) 0 h in
           record {
             fuel = omega (arith, s);
             whole = ap (λ (n : ℕ). search next n (searchFrom next (y .blocks) 0)) s;

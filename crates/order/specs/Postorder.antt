@@ -1,7 +1,7 @@
 -- The depth-first search of solver.rs `postorder`, over the words of scratch.
 use mathlib.Core.Path.{_≡_}
-use mathlib.Core.List.{List, [], _∷_, reverse}
-use Prim.Native.Nat.{ℕ, _*_, _<_}
+use mathlib.Core.List.{List, _∷_, reverse}
+use Prim.Native.Nat.{ℕ, _*_}
 use lib.ListN.{length, replicate, take}
 use Rattle.dataflow.specs.Search.{Search, search, searchFrom, turns, allTurns}
 use Rattle.memory.specs.Cells.{Mem, cell}

@@ -1,9 +1,8 @@
 -- Document 01's "Sheets to try", a to j, from the bytes: the answer with work and retained bytes, the block list and the sets buffer, computed
 -- by the definitions from a budget of zero. Assumes nothing.
 use mathlib.Core.Path.{_≡_, refl}
-use mathlib.Core.List.{List, [], _∷_, _++_}
+use mathlib.Core.List.{List, [], _∷_}
 use Prim.Native.Nat.{ℕ}
-use lib.ListN.{replicate}
 use Rattle.dataflow.specs.Worklist.{run}
 use Rattle.dataflow.specs.Framework.{solution}
 use Rattle.dataflow.specs.FlowGraph.{initAtEntry, liveAtEntry}

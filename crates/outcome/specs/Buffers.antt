@@ -6,14 +6,12 @@ use lib.ListN.{length, getD, replicate}
 use Rattle.dataflow.specs.Lists.{range}
 use Rattle.dataflow.specs.Code.{Instruction, leaders, blockSuccessors}
 use Rattle.dataflow.specs.Results.{reachable, initExit, liveEntry}
-use Rattle.budget.specs.declared.FlowBudget.{FlowBudget}
-use Rattle.budget.specs.declared.Limits.{Limits}
 use Rattle.memory.specs.Names.{flag}
 use Rattle.sheet.specs.Decode.{partsOf}
 use Rattle.script.specs.Script.{flowCode, parameterIn}
 use Rattle.verdict.specs.Points.{Point, points}
 use Rattle.answer.specs.Words.{wordsOf}
-use Rattle.outcome.specs.Outcome.{Lengths, Outcome, accepted, refused, outcomeOf}
+use Rattle.outcome.specs.Outcome.{Lengths, Outcome, accepted, refused}
 
 -- the answer, then zeros, n words in all
 abbrev pub padded : ℕ → List ℕ → List ℕ

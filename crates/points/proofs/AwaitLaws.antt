@@ -1,11 +1,10 @@
 -- One await by rows: each way out of `check_await` and `check_point`. Assumes nothing.
 use mathlib.Core.Path.{_≡_, refl, sym, ap, ap₂, subst, _∙_}
 use mathlib.Core.Bool.{Bool, true, false}
-use mathlib.Core.List.{List, [], _∷_}
-use Prim.Native.Nat.{ℕ, _+_, _*_, _-_, _≤_, _<_}
+use mathlib.Core.List.{[], _∷_}
+use Prim.Native.Nat.{ℕ, _+_, _*_}
 use native.Mathlib.Omega.{arith}
 use Rattle.bitset.specs.Sets.{common}
-use Rattle.dataflow.specs.Lists.{pick}
 use Rattle.budget.specs.declared.FlowBudget.{FlowBudget}
 use Rattle.budget.specs.declared.Limits.{Limits}
 use Rattle.budget.specs.declared.Charged.{Charged}
@@ -18,7 +17,7 @@ use Rattle.memory.specs.Names.{liveStateRow, hostsRow}
 use Rattle.memory.specs.declared.layout.Layout.{Layout}
 use Rattle.points.specs.declared.awaits.Points.{Points}
 use Rattle.points.specs.declared.awaits.Points.the-variants.{Passed, Refused}
-use Rattle.verdict.specs.Points.{Checking, stop, on, ifPaid, ifKept}
+use Rattle.verdict.specs.Points.{stop}
 use Rattle.points.specs.Rows.{pointsOf, awaitRows, AwaitChecked}
 
 module _ (y : Layout) (l : Limits) (slots : ℕ) (b : FlowBudget) (pc place : ℕ) (m t : Mem) where

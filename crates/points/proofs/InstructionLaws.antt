@@ -13,7 +13,7 @@ use Rattle.dataflow.specs.Lists.{pick, range, some}
 use Rattle.dataflow.specs.Analyses.{liveTransfer}
 use Rattle.dataflow.specs.Code.{Instruction, instructionAt, program}
 use Rattle.dataflow.specs.Verdict.{awaitAt}
-use Rattle.dataflow.proofs.Bools.{and-left, and-right}
+use Rattle.dataflow.proofs.Bools.{and-left, and-right, same-truth}
 use Rattle.dataflow.proofs.Lists.{mem-range, some-at, some-to}
 use Rattle.budget.specs.declared.FlowBudget.{FlowBudget}
 use Rattle.budget.specs.declared.Limits.{Limits}
@@ -41,11 +41,6 @@ use Rattle.points.specs.Slots.{removedAll}
 use Rattle.points.proofs.MeansLaws.{means-live}
 
 -- ---- a slot in common
-
-same-truth : (a b : Bool) → (a ≡ true → b ≡ true) → (b ≡ true → a ≡ true) → a ≡ b
-same-truth true b f g = sym (f refl)
-same-truth false true f g = g refl
-same-truth false false f g = refl
 
 both : (a b : Bool) → a ≡ true → b ≡ true → (a && b) ≡ true
 both a b e f = rw (e, f) refl

@@ -1,7 +1,7 @@
 -- The reads of a block's instructions one by one: the charge of each, its inputs, and its output put into the running set. Assumes nothing.
 use mathlib.Core.Path.{_≡_, refl, sym, ap, ap₂, subst, _∙_}
-use mathlib.Core.Bool.{Bool, true, false, not, _&&_, _||_, true≢false, false≢true}
-use mathlib.Core.List.{List, [], _∷_, _++_}
+use mathlib.Core.Bool.{Bool, true, false, not, _&&_, _||_, true≢false}
+use mathlib.Core.List.{List, [], _∷_}
 use Prim.Native.Nat.{ℕ, zero, suc, _+_, _*_, _-_, _≤_, _<_}
 use native.Mathlib.Omega.{arith}
 use lib.ListN.{length, getD}
@@ -10,6 +10,8 @@ use Rattle.dataflow.specs.Lists.{pick, range, every, keep, elem}
 use Rattle.dataflow.specs.Analyses.{initTransfer}
 use Rattle.dataflow.specs.Code.{Instruction, instructionAt, program}
 use Rattle.dataflow.specs.Verdict.{awaitAt}
+use Rattle.dataflow.proofs.Bools.{not-yes}
+use Rattle.dataflow.proofs.Lists.{keep-both}
 use Rattle.budget.specs.declared.FlowBudget.{FlowBudget}
 use Rattle.budget.specs.declared.Limits.{Limits}
 use Rattle.budget.specs.declared.Charged.{Charged}
@@ -61,22 +63,12 @@ every-there f [] h = refl
 every-there f (x ∷ l) h =
     ap (λ (t : Bool). t && every f l) (h 0 (omega arith)) ∙ every-there f l (λ k g. h (suc k) (omega arith))
 
--- those of two lists that are kept
-kept-both : (f : ℕ → Bool) (a b : List ℕ) → length (keep f (a ++ b)) ≡ length (keep f a) + length (keep f b)
-kept-both f [] b = omega arith
-kept-both f (x ∷ a) b = go (f x) (kept-both f a b)
-  where
-    go : (t : Bool) → length (keep f (a ++ b)) ≡ length (keep f a) + length (keep f b)
-        → length (pick t (x ∷ keep f (a ++ b)) (keep f (a ++ b))) ≡ length (pick t (x ∷ keep f a) (keep f a)) + length (keep f b)
-    go true e = omega (arith, e)
-    go false e = e
-
 -- the awaits up to pc, and the one there
 pub awaits-more : (code : List Instruction) (start pc k : ℕ) → start ≤ pc → awaitAt code pc ≡ isAwait k
     → awaitsAmong code start (pc + 1) ≡ awaitsAmong code start pc + awaitCount k
 awaits-more code start pc k h e =
     ap (λ (l : List ℕ). length (keep (awaitAt code) l)) (range-more start pc h)
-    ∙ kept-both (awaitAt code) (range start (pc - start)) (pc ∷ [])
+    ∙ keep-both (awaitAt code) (range start (pc - start)) (pc ∷ [])
     ∙ ap (λ (n : ℕ). awaitsAmong code start pc + n) (go (awaitAt code pc) ∙ ap (λ (t : Bool). pick {A = ℕ} t 1 0) e)
   where
     go : (t : Bool) → length (pick t (pc ∷ []) []) ≡ pick t 1 0
@@ -248,15 +240,11 @@ module _ (code : List Instruction) (parameter : ℕ → Bool) (y : Layout) (l : 
         reads-unfilled row k i j t q v z o = record {
           answer = λ f g. let u = a .run f g in
               sym (u .2 ∙ met (u .0) false (means-missing (y .words) _ (u .0) (u .1) ins k ib j
-              (ap (λ (n : ℕ). member (cell m′ n) (getD ins k 0)) (sym i) ∙ denied (member (cell m′ row) (getD ins k 0)) (sym q ∙ v)))
+              (ap (λ (n : ℕ). member (cell m′ n) (getD ins k 0)) (sym i) ∙ not-yes (member (cell m′ row) (getD ins k 0)) (sym q ∙ v)))
               ∙ ap (stop UnfilledSlot) (sym o));
           counted = λ n z′ w. let o : _≡_ {A = ℕ} 0 1 = cc in absurd (omega arith);
           others = a .others;
         }
-          where
-            denied : (t : Bool) → not t ≡ true → t ≡ false
-            denied true f = absurd (false≢true f)
-            denied false f = refl
 
         -- one instruction more
         pub reading-more : (row kind k : ℕ) (outs : List ℕ) (m₁ : Mem) → row ≡ stateRow (y .blocks) → row < length m′

@@ -45,7 +45,7 @@ module _ (d : Direction) (y : Layout) (t : Mem) where
   rows-at b lt = getD-tabulate 0 (y .blocks) b (λ c. cell t (keptRow d c)) [] lt ∙ ap (λ (c : ℕ). cell t (keptRow d c)) (zero-add b)
 
   -- one row a block
-  rows-long : length (rowsOf d y t) ≡ y .blocks
+  pub rows-long : length (rowsOf d y t) ≡ y .blocks
   unfolding rowsOf
   rows-long = length-tabulate 0 (y .blocks) (λ c. cell t (keptRow d c))
 

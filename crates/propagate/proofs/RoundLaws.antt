@@ -17,7 +17,7 @@ use Rattle.budget.specs.declared.Limits.{Limits}
 use Rattle.budget.specs.declared.Charged.{Charged}
 use Rattle.budget.specs.declared.Charged.the-variants.{Ok, Over}
 use Rattle.budget.specs.Budget.{afterSpent, charged, andCharged, budgetOf}
-use Rattle.budget.proofs.BudgetLaws.{charged-cons, charged-append}
+use Rattle.budget.proofs.BudgetLaws.{charged-cons, charged-append, over-not-ok}
 use Rattle.memory.specs.Cells.{Mem, cell, storeCell}
 use Rattle.memory.specs.Names.{orderCell, queuedCell, reachableCell, ringCell}
 use Rattle.memory.specs.Scratch.{scratchWidths}
@@ -42,14 +42,6 @@ use Rattle.propagate.proofs.Simulation.{Simulates}
 use Rattle.propagate.proofs.Visits.{chargesOf, Follows, follows-run, run-charges, run-parts}
 
 -- ---- charges
-
--- a crossed limit is none that was met
-over-not-ok : {x left : FlowBudget} → Over x ≡ Ok left → ⊥
-over-not-ok e = false≢true (ap isOk e)
-  where
-    isOk : Charged → Bool
-    isOk (Ok x) = true
-    isOk (Over x) = false
 
 -- charges that were met are within the limit
 pub met-within : (l : Limits) (b : FlowBudget) (c : ℕ) (cs : List ℕ) {left : FlowBudget} → charged l b (c ∷ cs) ≡ Ok left → left .work ≤ l .work

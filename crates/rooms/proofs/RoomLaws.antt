@@ -1,8 +1,8 @@
 -- 11 and 10 in their order, and what is known where neither is due. Assumes nothing.
 use mathlib.Core.Path.{_≡_, refl, sym, ap, ap₂, subst, _∙_}
-use mathlib.Core.Bool.{Bool, true, false, _||_, true≢false, false≢true}
+use mathlib.Core.Bool.{Bool, true, false, _||_}
 use mathlib.Core.List.{List, [], _∷_}
-use Prim.Native.Nat.{ℕ, zero, suc, _+_, _*_, _/_, _≤_, _<_}
+use Prim.Native.Nat.{ℕ, _*_, _≤_, _<_}
 use native.Mathlib.Omega.{arith}
 use lib.Dec.{ltb}
 use lib.ListN.{length, replicate}
@@ -18,8 +18,7 @@ use Rattle.budget.specs.declared.Charged.the-variants as charging
 use Rattle.budget.specs.Budget.{charged, budgetOf, stateBytes, andCharged}
 use Rattle.budget.proofs.BudgetLaws.{charged-cons}
 use Rattle.format.specs.declared.refusal.Refusal.the-variants.{NoRoom, StateLimit, WorkLimit}
-use Rattle.memory.specs.Cells.{Mem, cell, word}
-use Rattle.memory.specs.Names.{blockOfCell}
+use Rattle.memory.specs.Cells.{Mem}
 use Rattle.memory.specs.declared.layout.Layout.{Layout}
 use Rattle.memory.specs.Scratch.{scratch, scratchWords, Room}
 use Rattle.memory.specs.Sets.{setsWords, SetsRoom}
@@ -30,9 +29,9 @@ use Rattle.script.specs.Script.{flowCode}
 use Rattle.script.proofs.ScriptLaws.{code-length}
 use Rattle.leaders.specs.Index.{Indexed, Fits}
 use Rattle.leaders.specs.Leaders.{marking, Led, Leads}
-use Rattle.leaders.specs.Numbers.{marked, Numbered}
+use Rattle.leaders.specs.Numbers.{Numbered}
 use Rattle.leaders.proofs.BlockLaws.{blocks-are}
-use Rattle.leaders.proofs.IndexLaws.{indexed, indexed-grown, few-blocks, first-marked}
+use Rattle.leaders.proofs.IndexLaws.{indexed, indexed-grown, few-blocks}
 use Rattle.rooms.specs.declared.Lent.{Lent}
 use Rattle.rooms.specs.declared.Staged.{Staged}
 use Rattle.rooms.specs.declared.Staged.the-variants.{Ok, Refused}

@@ -1,6 +1,6 @@
 -- Refusals 11 and the later 10: flow.rs `graph` up to where its state is known, and document 01's sizes of the lent buffers.
 use mathlib.Core.Bool.{Bool, _||_}
-use mathlib.Core.List.{List, [], _∷_}
+use mathlib.Core.List.{List, _∷_}
 use mathlib.Core.Path.{_≡_}
 use Prim.Native.Nat.{ℕ, _+_, _/_, _≤_}
 use lib.Dec.{ltb}

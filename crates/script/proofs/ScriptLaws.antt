@@ -11,7 +11,6 @@ use lib.Dec.{T, eqb}
 use lib.ListN.{length, getD, replicate}
 use borrow.Author.Tests.{eqb-true}
 use Rattle.dataflow.specs.Lists.{elem}
-use Rattle.dataflow.specs.Program.{Program}
 use Rattle.dataflow.specs.Code as flow
 use Rattle.dataflow.specs.Checked.{Checked}
 use Rattle.operands.specs.Kinds.{endsBlock}
@@ -21,7 +20,7 @@ use Rattle.operands.specs.Operands.{bySource, inputsOf, outputOf, targetsOf}
 use Rattle.operands.proofs.Table.{at}
 use Rattle.operands.specs.Instructions.{valuesOf}
 use Rattle.sheet.specs.declared.script.Script.{Script}
-use Rattle.sheet.specs.Decode.{Instruction, Parts, partsOf, instructionOf}
+use Rattle.sheet.specs.Decode.{Instruction, partsOf, instructionOf}
 use Rattle.instructions.specs.Sets.{AllBelow}
 use Rattle.instructions.specs.Sound.{Sound, codeInstruction}
 use Rattle.instructions.proofs.SetMembers.{records-count}

@@ -1,5 +1,4 @@
 -- The answer of the exported check, for any bytes.
-use Prim.Native.Nat.{ℕ}
 use Rattle.format.specs.Refusals.{numberOf}
 use Rattle.sheet.specs.declared.script.Checked.{Checked}
 use Rattle.sheet.specs.declared.script.Checked.the-variants.{Passed, Refused}

@@ -64,16 +64,6 @@ keep-sublist f (x ∷ l) = go (f x) (keep-sublist f l)
     go true s = take s
     go false s = skip s
 
--- what is kept of two lists
-pub keep-append : (f : ℕ → Bool) (l m : List ℕ) → keep f (l ++ m) ≡ keep f l ++ keep f m
-keep-append f [] m = refl
-keep-append f (x ∷ l) m = go (f x) (keep-append f l m)
-  where
-    go : (t : Bool) → keep f (l ++ m) ≡ keep f l ++ keep f m
-        → pick t (x ∷ keep f (l ++ m)) (keep f (l ++ m)) ≡ pick t (x ∷ keep f l) (keep f l) ++ keep f m
-    go true e = ap (λ (z : List ℕ). x ∷ z) e
-    go false e = e
-
 -- what is kept passes the test
 pub keep-passes : (f : ℕ → Bool) (l : List ℕ) (y : ℕ) → List·Memᴰ y (keep f l) → f y ≡ true
 keep-passes f [] y m = absurd (List·Memᴰ·not-nil m)

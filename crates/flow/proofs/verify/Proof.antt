@@ -1,10 +1,8 @@
 use Rattle.flow.proofs.VerifyLaws.{at-todays, fill-asks, verified}
-use Rattle.memory.specs.Scratch.{Room}
-use Rattle.memory.specs.declared.layout.Layout.{Layout}
 use Rattle.budget.specs.declared.Limits.{Limits}
 use native.Mathlib.Omega.{arith}
 use Prim.Native.Nat.{_-_, _^_, _<_}
-use mathlib.Core.Path.{_≡_, refl, sym, ap, subst, _∙_}
+use mathlib.Core.Path.{sym, subst}
 use borrow.Author.Needs.{needs}
 use Rattle.flow.proofs.verify.Statement.{statement}
 use Rattle.flow.proofs.verify.Tie as tie

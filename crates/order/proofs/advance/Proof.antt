@@ -1,5 +1,4 @@
 -- `order::advance` meets its contract: one turn over the words is one turn of the search. Assumes nothing.
-use Prim.Native.Nat.{_-_}
 use native.Mathlib.Omega.{arith}
 use borrow.Author.Needs.{needs}
 use Rattle.memory.proofs.ScratchLaws.{place-blocks, scratch-sized}

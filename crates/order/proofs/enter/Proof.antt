@@ -1,6 +1,5 @@
 -- `order::enter` meets its contract: a visited block changes nothing, an unvisited one is a frame more. Assumes nothing.
 use mathlib.Core.Path.{sym, _∙_}
-use Prim.Native.Nat.{_-_}
 use native.Mathlib.Omega.{arith}
 use borrow.Author.Needs.{needs}
 use Rattle.memory.proofs.ScratchLaws.{place-blocks, scratch-sized}

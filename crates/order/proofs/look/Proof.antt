@@ -1,5 +1,4 @@
 -- `order::look` meets its contract: the frame's edge is passed, and what it leads to is entered. Assumes nothing.
-use Prim.Native.Nat.{_-_}
 use native.Mathlib.Omega.{arith}
 use borrow.Author.Needs.{needs}
 use Rattle.memory.proofs.ScratchLaws.{place-blocks, place-edges, scratch-sized}

@@ -1,5 +1,4 @@
 -- `edges::reachability::crossed` meets its contract. Assumes nothing.
-use Prim.Native.Nat.{_-_}
 use borrow.Author.Needs.{needs}
 use Rattle.edges.proofs.reachability.crossed.Statement.{statement}
 use Rattle.edges.proofs.reachability.crossed.Tie as tie

@@ -1,5 +1,4 @@
 -- `edges::reachability::over` meets its contract. Assumes nothing.
-use Prim.Native.Nat.{_-_}
 use borrow.Author.Needs.{needs}
 use Rattle.edges.proofs.reachability.over.Statement.{statement}
 use Rattle.edges.proofs.reachability.over.Tie as tie

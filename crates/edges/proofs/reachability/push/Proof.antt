@@ -1,5 +1,4 @@
 -- `edges::reachability::push` meets its contract. Assumes nothing.
-use Prim.Native.Nat.{_-_}
 use native.Mathlib.Omega.{arith}
 use denote.Ref.{now}
 use borrow.Author.Needs.{needs}

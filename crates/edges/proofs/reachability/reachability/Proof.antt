@@ -1,5 +1,4 @@
 -- `edges::reachability::reachability` meets its contract. Assumes nothing.
-use Prim.Native.Nat.{_-_}
 use native.Mathlib.Omega.{arith}
 use lib.ListN.{length}
 use borrow.Author.Needs.{needs}

@@ -1,7 +1,6 @@
 -- `points::awaits::check_await` meets its contract: a law for each way out. Assumes nothing.
 use mathlib.Core.Path.{refl}
 use Prim.Native.Nat.{_+_}
-use native.Mathlib.Omega.{arith}
 use denote.Ref.{now}
 use Rattle.memory.specs.Scratch.{scratch}
 use Rattle.memory.specs.Sets.{sets}
