@@ -11,7 +11,7 @@ use Rattle.dataflow.specs.Results.{initEntry, liveExit}
 use Rattle.budget.specs.declared.FlowBudget.{FlowBudget}
 use Rattle.budget.specs.declared.Limits.{Limits}
 use Rattle.memory.specs.Cells.{Mem, cell, word, storeCell}
-use Rattle.memory.specs.Names.{offsetCell, costCell, startCell, endCell, stateRow, liveStateRow, hostsRow, initializedRow, liveRow}
+use Rattle.memory.specs.Names.{offsetCell, costCell, startCell, endCell, stateRow, liveStateRow, hostsRow, parametersRow, initializedRow, liveRow}
 use Rattle.memory.specs.Scratch.{scratch, Room}
 use Rattle.memory.specs.Sets.{sets, SetsRoom}
 use Rattle.memory.specs.declared.layout.Layout.{Layout}
@@ -22,13 +22,13 @@ use Rattle.sheet.specs.declared.script.Script.{Script}
 use Rattle.sheet.specs.Decode.{partsOf}
 use Rattle.script.specs.Script.{parameterIn}
 use Rattle.edges.proofs.EdgeLaws.{same-word}
+use Rattle.edges.proofs.FlowLaws.{Still, flows-still}
 use Rattle.solver.specs.declared.direction.Direction.{Direction}
 use Rattle.solver.specs.declared.direction.Direction.the-variants.{Initialization, Liveness}
 use Rattle.solver.specs.Neighbors.{Connected}
 use Rattle.solver.specs.Transfer.{runningRow, gathered}
 use Rattle.fixed_points.specs.FixedPoints.{Sets}
 use Rattle.fixed_points.proofs.CodeGraph.{connected}
-use Rattle.fixed_points.proofs.FixedLaws.{Stays, flows-stay}
 use Rattle.fixed_points.proofs.Gathered.{incoming-bits, live-out-bits}
 use Rattle.answer.specs.Words.{Means}
 use Rattle.points.specs.declared.reads.Reads.{Reads}
@@ -45,12 +45,12 @@ pub record RunningOnly (y : Layout) (m m′ : Mem) : Type 0 where
 pub running-then : {y : Layout} {m m₁ m′ : Mem} → RunningOnly y m m₁ → RunningOnly y m₁ m′ → RunningOnly y m m′
 running-then h g = record { others = λ k a b. g .others k a b ∙ h .others k a b }
 
--- the cells that hold the graph and the blocks' sets stay
-stays-running : {y : Layout} {m m′ : Mem} → RunningOnly y m m′ → Stays y m m′
-stays-running h = record {
+-- the graph's cells stay
+pub still-running : {y : Layout} {m m′ : Mem} → RunningOnly y m m′ → Still y m m′
+still-running {y} h = record {
   low = λ k lt. h .others k (λ e. omega arith) (λ e. omega arith);
   edges = λ k lo hi. h .others k (λ e. omega arith) (λ e. omega arith);
-  rows = λ k lo. h .others k (λ e. omega arith) (λ e. omega arith);
+  parameters = h .others (parametersRow (y .blocks)) (λ e. omega arith) (λ e. omega arith);
 }
 
 module _ {y : Layout} {m m′ : Mem} (h : RunningOnly y m m′) where
@@ -74,7 +74,7 @@ module _ {y : Layout} {m m′ : Mem} (h : RunningOnly y m m′) where
   solved-kept p = record {
     coded = coded-kept (p .coded);
     scripted = p .scripted;
-    flows = flows-stay (stays-running h) (p .flows);
+    flows = flows-still (still-running h) (p .flows);
     starts = λ c lt. word-kept startCell c (omega arith) ∙ p .starts c lt;
     ends = λ c lt. word-kept endCell c (omega arith) ∙ p .ends c lt;
     sets = p .sets;
@@ -82,7 +82,7 @@ module _ {y : Layout} {m m′ : Mem} (h : RunningOnly y m m′) where
   }
 
 -- the sets of the blocks stay where the rows of the sets buffer do
-sets-kept : {code : List Instruction} {parameter : ℕ → Bool} {y : Layout} {t t′ : Mem}
+pub sets-kept : {code : List Instruction} {parameter : ℕ → Bool} {y : Layout} {t t′ : Mem}
     → ((k : ℕ) → k < 2 * y .blocks → cell t′ k ≡ cell t k) → Sets code parameter y t → Sets code parameter y t′
 sets-kept h g = record {
   initialized = λ c i lc li. ap (λ (ws : List ℕ). member ws i) (h (initializedRow c) (omega arith)) ∙ g .initialized c i lc li;

@@ -4,3 +4,4 @@ pub mod ChainLaws
 pub mod StackLaws
 pub mod SweepLaws
 pub mod ResultLaws
+pub mod FlowLaws

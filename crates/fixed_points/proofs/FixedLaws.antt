@@ -16,15 +16,14 @@ use Rattle.budget.specs.declared.Charged.the-variants.{Ok, Over}
 use Rattle.budget.specs.Budget.{charged}
 use Rattle.budget.proofs.BudgetLaws.{met-then, over-then, over-not-ok}
 use Rattle.memory.specs.Cells.{Mem, cell}
-use Rattle.memory.specs.Names.{reachableCell, successorCountCell, firstEdgeCell, predecessorCountCell, orderCell}
-use Rattle.memory.specs.Names.{successorCell, nextEdgeCell, usesRow, definesRow, parametersRow, initializedRow, liveRow}
+use Rattle.memory.specs.Names.{orderCell}
+use Rattle.memory.specs.Names.{parametersRow, initializedRow, liveRow}
 use Rattle.memory.specs.Scratch.{scratchWidths, scratch, Room}
 use Rattle.memory.specs.declared.layout.Layout.{Layout}
 use Rattle.memory.proofs.CellLaws.{Sized}
 use Rattle.memory.proofs.ScratchLaws.{scratch-sized, row-words}
 use Rattle.edges.specs.Edges.{Held}
-use Rattle.edges.proofs.EdgeLaws.{same-word, holds-kept}
-use Rattle.edges.proofs.ResultLaws.{chained-kept}
+use Rattle.edges.proofs.FlowLaws.{Still, flows-still}
 use Rattle.order.specs.declared.Ordered.{Ordered}
 use Rattle.order.specs.declared.Ordered.the-variants as ordering
 use Rattle.order.specs.Postorder.{searchedFrom, searchCharges, chargedIn, Searched}
@@ -42,18 +41,12 @@ use Rattle.fixed_points.proofs.Seeds.{seedable}
 
 -- ---- what stays
 
--- the cells that hold the graph and the blocks' sets stay
-pub record Stays (y : Layout) (m m′ : Mem) : Type 0 where
-  pub low : (k : ℕ) → k < 10 → cell m′ k ≡ cell m k
-  pub edges : (k : ℕ) → 16 ≤ k → k < 18 + 4 * y .blocks → cell m′ k ≡ cell m k
-  pub rows : (k : ℕ) → 20 + 4 * y .blocks ≤ k → cell m′ k ≡ cell m k
-
--- the search changes none of them
-pub stays-searched : {y : Layout} {l : Limits} {b : FlowBudget} {m m′ : Mem} {o : Ordered} → Searched y l b m m′ o → Stays y m m′
-stays-searched p = record {
+-- the search leaves the graph's cells as they were
+pub still-searched : {y : Layout} {l : Limits} {b : FlowBudget} {m m′ : Mem} {o : Ordered} → Searched y l b m m′ o → Still y m m′
+still-searched {y = y} p = record {
   low = λ k lt. p .others k (λ e. omega arith) (λ e. omega arith) (λ e. omega arith) (λ e. omega arith);
   edges = λ k lo hi. p .others k (λ e. omega arith) (λ e. omega arith) (λ e. omega arith) (λ e. omega arith);
-  rows = λ k lo. p .others k (λ e. omega arith) (λ e. omega arith) (λ e. omega arith) (λ e. omega arith);
+  parameters = p .others (parametersRow (y .blocks)) (λ e. omega arith) (λ e. omega arith) (λ e. omega arith) (λ e. omega arith);
 }
 
 -- where a round computes
@@ -61,27 +54,13 @@ running-at : (d : Direction) (y : Layout) → (18 + 4 * y .blocks ≤ runningRow
 running-at Initialization y = (omega arith, omega arith)
 running-at Liveness y = (omega arith, omega arith)
 
--- a round changes none of them either
-pub stays-round : {d : Direction} {y : Layout} {l : Limits} {b : FlowBudget} {n : ℕ} {m m′ t t′ : Mem} {r : Charged} {left : FlowBudget}
-    → Propagated d y l b n m m′ t t′ r → r ≡ Ok left → Stays y m m′
-stays-round {d} {y} {left = left} p e = record {
+-- so does a round
+pub still-round : {d : Direction} {y : Layout} {l : Limits} {b : FlowBudget} {n : ℕ} {m m′ t t′ : Mem} {r : Charged} {left : FlowBudget}
+    → Propagated d y l b n m m′ t t′ r → r ≡ Ok left → Still y m m′
+still-round {d} {y} {left = left} p e = record {
   low = λ k lt. p .others left e k (λ q. omega arith) (λ q. omega arith) (λ q. omega (arith, running-at d y .0));
   edges = λ k lo hi. p .others left e k (λ q. omega arith) (λ q. omega arith) (λ q. omega (arith, running-at d y .0));
-  rows = λ k lo. p .others left e k (λ q. omega arith) (λ q. omega arith) (λ q. omega (arith, running-at d y .1));
-}
-
--- so the words hold what they held
-pub flows-stay : {code : List Instruction} {parameter : ℕ → Bool} {y : Layout} {m m′ : Mem} → Stays y m m′ → Flows code parameter y m
-    → Flows code parameter y m′
-flows-stay {y = y} {m = m} {m′ = m′} h f = record {
-  blocks = f .blocks;
-  holds = holds-kept (h .low successorCountCell (omega arith)) (h .edges successorCell (omega arith) (omega arith)) (f .holds);
-  chained = chained-kept m m′ (h .low firstEdgeCell (omega arith)) (h .low predecessorCountCell (omega arith))
-      (h .edges nextEdgeCell (omega arith) (omega arith)) (f .chained);
-  reached = λ c lt. same-word m m′ reachableCell c (h .low reachableCell (omega arith)) ∙ f .reached c lt;
-  uses-are = λ c lt i. ap (λ (ws : List ℕ). member ws i) (h .edges (usesRow c) (omega arith) (omega arith)) ∙ f .uses-are c lt i;
-  defines-are = λ c lt i. ap (λ (ws : List ℕ). member ws i) (h .edges (definesRow c) (omega arith) (omega arith)) ∙ f .defines-are c lt i;
-  parameters-are = λ i. ap (λ (ws : List ℕ). member ws i) (h .rows (parametersRow (y .blocks)) (omega arith)) ∙ f .parameters-are i;
+  parameters = p .others left e (parametersRow (y .blocks)) (λ q. omega arith) (λ q. omega arith) (λ q. omega (arith, running-at d y .1));
 }
 
 -- the order stays through a round
@@ -137,14 +116,14 @@ module _ {y : Layout} {l : Limits} {b : FlowBudget} {n : ℕ} {m m₁ t t₁ : M
       → Propagated Liveness y l left n m₁ m′ t₁ t′ r → RoundsDone y l b n m m′ t t′ r
   rounds-on {left} {m′} {t′} {r} e z₁ w₁ q = record {
     charges = λ code parameter s f o fresh.
-        round-charges s (flows-stay (stays-round p e) f) z₁ w₁ (order-round p e o) (fresh-round p e (fresh-in Liveness fresh)) q
+        round-charges s (flows-still (still-round p e) f) z₁ w₁ (order-round p e o) (fresh-round p e (fresh-in Liveness fresh)) q
         ∙ sym (met-then l b (propagateCharges code parameter (y .words) initialization) (propagateCharges code parameter (y .words) liveness)
         (sym (round-charges s f z w o (fresh-in Initialization fresh) p) ∙ e));
     sets = λ code parameter s f o fresh last u. record {
       initialized = λ k i lk li. ap (λ (ws : List ℕ). member ws i) (initialized-round q u k)
           ∙ round-sets s f z w o (fresh-in Initialization fresh) p left e k i lk li;
       live = λ k i lk li.
-          round-sets s (flows-stay (stays-round p e) f) z₁ w₁ (order-round p e o) (fresh-round p e (fresh-in Liveness fresh)) q last u k i lk li;
+          round-sets s (flows-still (still-round p e) f) z₁ w₁ (order-round p e o) (fresh-round p e (fresh-in Liveness fresh)) q last u k i lk li;
     };
     others = λ last u k a d g h. q .others last u k a d h ∙ p .others left e k a d g;
   }
@@ -170,19 +149,20 @@ module _ {y : Layout} {l : Limits} {b : FlowBudget} {m m₁ t t′ : Mem} {o : O
       → Fixed y l b m m′ t t′ r
   fixed-on {n} {left} {m′} {r} e q = record {
     charges = λ code parameter s f fresh.
-        q .charges code parameter s (flows-stay kept f) (order-searched f p e) fresh
+        q .charges code parameter s (flows-still kept f) (order-searched f p e) fresh
         ∙ sym (met-then l b (postorderCharges code) (roundsCharges code parameter (y .words)) (sym (search-charges f p) ∙ ap chargedIn e));
-    sets = λ code parameter s f fresh last u. q .sets code parameter s (flows-stay kept f) (order-searched f p e) fresh last u;
+    sets = λ code parameter s f fresh last u. q .sets code parameter s (flows-still kept f) (order-searched f p e) fresh last u;
     others = λ last u k lt.
         q .others last u k (λ v. omega arith) (λ v. omega arith) (λ v. omega arith) (λ v. omega arith) ∙ kept .low k lt;
     edges = λ last u k lo hi.
         q .others last u k (λ v. omega arith) (λ v. omega arith) (λ v. omega arith) (λ v. omega arith) ∙ kept .edges k lo hi;
     rows = λ last u k lo.
-        q .others last u k (λ v. omega arith) (λ v. omega arith) (λ v. omega arith) (λ v. omega arith) ∙ kept .rows k lo;
+        q .others last u k (λ v. omega arith) (λ v. omega arith) (λ v. omega arith) (λ v. omega arith)
+        ∙ p .others k (λ v. omega arith) (λ v. omega arith) (λ v. omega arith) (λ v. omega arith);
   }
     where
-      kept : Stays y m m₁
-      kept = stays-searched p
+      kept : Still y m m₁
+      kept = still-searched p
 
 -- ---- what the calls require
 
@@ -197,7 +177,7 @@ flowing-some h = some-block (h .2) (h .3)
 -- both rounds: the graph and its order
 pub ready-searched : {y : Layout} {l : Limits} {b : FlowBudget} {m m′ : Mem} {o : Ordered} {n : ℕ} {left : FlowBudget} → Flowing y m
     → Searched y l b m m′ o → o ≡ ordering.Ok n left → Ready y n m′
-ready-searched h p e = (h .0, h .1, h .2, flows-stay (stays-searched p) (h .3), order-searched (h .3) p e)
+ready-searched h p e = (h .0, h .1, h .2, flows-still (still-searched p) (h .3), order-searched (h .3) p e)
 
 -- a round: these seed it
 pub ready-seedable : {y : Layout} {n : ℕ} {m : Mem} → Sized (scratchWidths y) m → Ready y n m → Seedable y m n
@@ -206,7 +186,7 @@ ready-seedable z h = seedable (h .2) (h .3) z (h .4)
 -- and stay for the next
 pub ready-round : {d : Direction} {y : Layout} {l : Limits} {b : FlowBudget} {n : ℕ} {m m′ t t′ : Mem} {r : Charged} {left : FlowBudget}
     → Propagated d y l b n m m′ t t′ r → r ≡ Ok left → Ready y n m → Ready y n m′
-ready-round p e h = (h .0, h .1, h .2, flows-stay (stays-round p e) (h .3), order-round p e (h .4))
+ready-round p e h = (h .0, h .1, h .2, flows-still (still-round p e) (h .3), order-round p e (h .4))
 
 -- ---- as the code calls them: scratch as lent words
 

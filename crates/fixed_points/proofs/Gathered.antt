@@ -3,6 +3,7 @@ use mathlib.Core.Path.{_≡_, refl, sym, ap, ap₂, _∙_, subst}
 use mathlib.Core.Bool.{Bool, true, false, not, _&&_, _||_}
 use mathlib.Core.List.{List, [], _∷_, map}
 use Prim.Native.Nat.{ℕ, _*_, _<_}
+use native.Mathlib.Omega.{arith}
 use lib.Dec.{eqb}
 use Rattle.bitset.specs.Sets.{member, meet, join, Words}
 use Rattle.dataflow.specs.Analyses.{initialization, liveness}
@@ -17,9 +18,10 @@ use Rattle.budget.specs.declared.Limits.{Limits}
 use Rattle.budget.specs.declared.Charged.{Charged}
 use Rattle.budget.specs.declared.Charged.the-variants.{Ok}
 use Rattle.memory.specs.Cells.{Mem, cell, word}
-use Rattle.memory.specs.Names.{reachableCell}
+use Rattle.memory.specs.Names.{reachableCell, parametersRow}
 use Rattle.memory.specs.declared.layout.Layout.{Layout}
-use Rattle.edges.specs.Flow.{Flows, Fresh}
+use Rattle.edges.specs.Flow.{Flows}
+use Rattle.edges.proofs.FlowLaws.{Still}
 use Rattle.edges.specs.Predecessors.{AllBelow}
 use Rattle.solver.specs.declared.direction.Direction.{Direction}
 use Rattle.solver.specs.declared.direction.Direction.the-variants.{Initialization, Liveness}
@@ -32,7 +34,6 @@ use Rattle.fixed_points.proofs.CodeGraph.{connected, edges-in}
 use Rattle.fixed_points.proofs.Bits.{bitsOf, below-each, Table, RowsOfWords, entry-words, entry-init, entry-live}
 use Rattle.fixed_points.proofs.Bits.{gathers-words, gathers-init, gathers-live}
 use Rattle.fixed_points.proofs.RoundLaws.{rows-bit}
-use Rattle.fixed_points.proofs.FixedLaws.{Stays, flows-stay}
 
 -- every row of the sets buffer is of words
 abbrev pub SetsOfWords : Layout → Mem → Type 0
@@ -124,15 +125,10 @@ module _ {code : List Instruction} {parameter : ℕ → Bool} {y : Layout} {m : 
 
 module _ {y : Layout} {l : Limits} {b : FlowBudget} {m m′ t t′ : Mem} {r : Charged} (p : Fixed y l b m m′ t t′ r) {left : FlowBudget}
     (e : r ≡ Ok left) where
-  -- the cells that hold the graph and the blocks' sets stay
-  fixed-stays : Stays y m m′
-  fixed-stays = record { low = p .others left e; edges = p .edges left e; rows = p .rows left e }
-
-  -- so the words of scratch hold the graph still
-  pub flows-after : {code : List Instruction} {parameter : ℕ → Bool} → Flows code parameter y m → Flows code parameter y m′
-  flows-after f = flows-stay fixed-stays f
-
-  -- and those of the sets buffer both sets of every block
-  pub sets-after : {code : List Instruction} {parameter : ℕ → Bool} → Scripted code parameter (y .words) → Flows code parameter y m → Fresh y t
-      → Flows code parameter y m′ × Sets code parameter y t′
-  sets-after {code} {parameter} s f fresh = (flows-after f, p .sets code parameter s f fresh left e)
+  -- the graph's cells stay
+  pub fixed-still : Still y m m′
+  fixed-still = record {
+    low = p .others left e;
+    edges = p .edges left e;
+    parameters = p .rows left e (parametersRow (y .blocks)) (omega arith);
+  }

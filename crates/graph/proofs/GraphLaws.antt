@@ -19,7 +19,7 @@ use Rattle.format.specs.declared.refusal.Refusal.the-variants.{WorkLimit}
 use Rattle.memory.specs.Cells.{Mem, cell, storeCell, total}
 use Rattle.memory.specs.Names.{offsetCell, blockOfCell, leaderCell, parametersRow}
 use Rattle.memory.specs.declared.layout.Layout.{Layout}
-use Rattle.memory.specs.Scratch.{scratch, scratchWidths, Room}
+use Rattle.memory.specs.Scratch.{scratch, scratchWidths, Room, Row}
 use Rattle.memory.specs.Sets.{sets, SetsRoom}
 use Rattle.memory.proofs.CellLaws.{cell-store-same, cell-store-other}
 use Rattle.memory.proofs.CellRows.{Lies, lies-fits, lies-patched}
@@ -43,30 +43,32 @@ use Rattle.rooms.specs.Rooms.{ifMet, Indexes, Measured}
 use Rattle.graph.specs.Graph.{ifOk, stage, graphOf, Holding, Graphed, Joined, Reaches, Built}
 use Rattle.graph.proofs.HoldingLaws.{some-block, blocks-hold, joined-hold, all-held}
 
--- ---- the row of the parameters
+-- ---- a row of scratch
 
--- it is as wide as asked
-row-long : (p : Parts) (w : ℕ) → length (parameterRow p w) ≡ w
-unfolding parameterRow
-row-long p w = length-all (p .params) (replicate w 0) ∙ length-replicate w 0
-
--- where it lies in the slice; base is where its cell begins
-module _ (y : Layout) (w : List ℕ) (room : Room y (length w)) (k base : ℕ) (ek : k ≡ parametersRow (y .blocks))
+-- it is cell n, which begins at base
+module _ (y : Layout) (w : List ℕ) (room : Room y (length w)) {k base n : ℕ} (r : Row y n) (ek : k ≡ n)
     (eb : base ≡ total (take k (scratchWidths y))) where
+  -- where it lies in the slice
   row-there : Lies (scratchWidths y) w k base (y .words)
-  row-there = row-lies w room (record { low = omega arith; high = omega arith }) eb
+  row-there = row-lies w room (subst (Row y) (sym ek) r) eb
 
   -- it is inside
   pub row-inside : base + y .words ≤ length w
   row-inside = lies-fits row-there
 
   -- it is stored
-  pub row-stored : (p : Parts) (w′ : List ℕ) → w′ ≡ patched w base (parameterRow p (y .words))
-      → scratch y w′ ≡ storeCell (scratch y w) (parametersRow (y .blocks)) (parameterRow p (y .words))
+  pub row-stored : (row w′ : List ℕ) → length row ≡ y .words → w′ ≡ patched w base row → scratch y w′ ≡ storeCell (scratch y w) n row
   unfolding scratch
-  row-stored p w′ e =
-      lies-patched row-there (parameterRow p (y .words)) (row-long p (y .words)) e
-      ∙ ap (λ (i : ℕ). storeCell (scratch y w) i (parameterRow p (y .words))) ek
+  row-stored row w′ long e = lies-patched row-there row long e ∙ ap (λ (i : ℕ). storeCell (scratch y w) i row) ek
+
+-- that of the parameters
+pub parameters-row : (y : Layout) → Row y (parametersRow (y .blocks))
+parameters-row y = record { low = omega arith; high = omega arith }
+
+-- as wide as asked
+pub parameters-long : (p : Parts) (w : ℕ) → length (parameterRow p w) ≡ w
+unfolding parameterRow
+parameters-long p w = length-all (p .params) (replicate w 0) ∙ length-replicate w 0
 
 -- ---- `join`
 
@@ -100,9 +102,9 @@ module _ (y : Layout) (l : Limits) (b : FlowBudget) (m m′ : Mem) (c : Charged)
 -- ---- charges in two stages
 
 -- where the answer goes on, the charges were met, and the layout is the same
-met : (c : Charged) (y y′ : Layout) (left : FlowBudget) → ifMet c (Ok y) ≡ Ok y′ left → (c ≡ charging.Ok left) × (y ≡ y′)
-met (charging.Ok b) y y′ left e = (cc, cc)
-met (charging.Over b) y y′ left e = let o : _≡_ {A = ℕ} 0 1 = cc in absurd (omega arith)
+pub staged-met : (c : Charged) (y y′ : Layout) (left : FlowBudget) → ifMet c (Ok y) ≡ Ok y′ left → (c ≡ charging.Ok left) × (y ≡ y′)
+staged-met (charging.Ok b) y y′ left e = (cc, cc)
+staged-met (charging.Over b) y y′ left e = let o : _≡_ {A = ℕ} 0 1 = cc in absurd (omega arith)
 
 module _ (l : Limits) (b : FlowBudget) (cs ds : List ℕ) (y : Layout) (c : Charged) (ec : c ≡ charged l b cs) where
   -- the first crossed the limit
@@ -159,7 +161,7 @@ module _ (s : List ℕ) (x : Script) (y : Layout) (l : Limits) (b : FlowBudget) 
         answer = f .answer ∙ ap (λ (d : Charged). ifMet d (Ok y)) charges
             ∙ stage-on l b (operandCharges (flowCode (partsOf s))) (reachabilityCharges (flowCode (partsOf s))) y c (g .charges) left ec;
         holding = λ y′ left′ q. all-held s x y m₁ ready-still (g .blocks left ec) m₂ j l left left′ m₃ (f .charged-as) (f .reached)
-            (met (f .charged-as) y y′ left′ (sym (f .answer) ∙ q) .0);
+            (staged-met (f .charged-as) y y′ left′ (sym (f .answer) ∙ q) .0);
         fresh = λ y′ left′ q. record {
           initialized = λ d h. g .fresh left ec d h .initialized;
           live = λ d h. g .fresh left ec d h .live;
@@ -224,5 +226,5 @@ module _ (s : List ℕ) (x : Script) (l : Limits) (records : ℕ) (b : FlowBudge
       where
         same : (y′ : Layout) (left′ : FlowBudget) → r ≡ Ok y′ left′ → y ≡ y′
         same y′ left′ q =
-            met (charged l left (operandCharges (flowCode (partsOf s)) ++ reachabilityCharges (flowCode (partsOf s)))) y y′ left′
+            staged-met (charged l left (operandCharges (flowCode (partsOf s)) ++ reachabilityCharges (flowCode (partsOf s)))) y y′ left′
             (sym (f .answer) ∙ q) .1

@@ -60,7 +60,7 @@ among-elem k [] = refl
 among-elem k (x ∷ xs) = ap (λ (t : Bool). eqb k x || t) (among-elem k xs)
 
 -- a block's words and rows stay where their cells stay
-block-kept : {code : List Instruction} {parameter : ℕ → Bool} {m m′ : Mem} {c : ℕ} → cell m′ costCell ≡ cell m costCell
+pub block-kept : {code : List Instruction} {parameter : ℕ → Bool} {m m′ : Mem} {c : ℕ} → cell m′ costCell ≡ cell m costCell
     → cell m′ startCell ≡ cell m startCell → cell m′ endCell ≡ cell m endCell → cell m′ successorCountCell ≡ cell m successorCountCell
     → cell m′ successorCell ≡ cell m successorCell → cell m′ (usesRow c) ≡ cell m (usesRow c) → cell m′ (definesRow c) ≡ cell m (definesRow c)
     → Block code parameter m c → Block code parameter m′ c

@@ -1,22 +1,20 @@
--- The row of the host slots: where it lies in the words, that it is stored, and that it stands for them. Assumes nothing.
+-- The row of the host slots: its cell, how wide it is, and that it stands for them. Assumes nothing.
 use mathlib.Core.Path.{_≡_, refl, sym, ap, _∙_}
 use mathlib.Core.Bool.{Bool, true, false, _&&_}
 use mathlib.Core.List.{List}
-use Prim.Native.Nat.{ℕ, _+_, _*_, _≤_}
+use Prim.Native.Nat.{ℕ, _*_, _≤_}
 use native.Mathlib.Omega.{arith}
 use borrow.Author.Tests.{ltb-false}
 use lib.Dec.{ltb}
-use lib.ListN.{length, take, replicate, length-replicate, List·getD-eq-default}
-use Rattle.bitset.specs.Rows.{patched}
+use lib.ListN.{length, replicate, length-replicate, List·getD-eq-default}
 use Rattle.bitset.specs.Sets.{member}
 use Rattle.format.specs.Types.{absent}
-use Rattle.memory.specs.Cells.{Mem, cell, storeCell, total}
+use Rattle.memory.specs.Cells.{Mem, cell, storeCell}
 use Rattle.memory.specs.Names.{hostsRow}
 use Rattle.memory.specs.declared.layout.Layout.{Layout}
-use Rattle.memory.specs.Scratch.{scratch, scratchWidths, Room}
+use Rattle.memory.specs.Scratch.{scratch, Row}
 use Rattle.memory.proofs.CellLaws.{cell-store-same, cell-store-other}
-use Rattle.memory.proofs.CellRows.{Lies, lies-fits, lies-patched}
-use Rattle.memory.proofs.ScratchLaws.{scratch-length, row-lies}
+use Rattle.memory.proofs.ScratchLaws.{scratch-length}
 use Rattle.sheet.specs.declared.script.Script.{Script}
 use Rattle.sheet.specs.Decode.{Parts, partsOf}
 use Rattle.instructions.specs.Slots.{isHost}
@@ -30,29 +28,14 @@ use Rattle.judge.specs.Judge.{Hosted}
 
 -- ---- where it lies
 
--- it is as wide as asked
-hosts-long : (p : Parts) (w : ℕ) → length (hostRow p w) ≡ w
+-- its cell is a row
+pub hosts-row : (y : Layout) → Row y (hostsRow (y .blocks))
+hosts-row y = record { low = omega arith; high = omega arith }
+
+-- as wide as asked
+pub hosts-long : (p : Parts) (w : ℕ) → length (hostRow p w) ≡ w
 unfolding hostRow
 hosts-long p w = length-hosts (p .kinds) 0 (replicate w 0) ∙ length-replicate w 0
-
--- k is its cell, and base is where that begins
-module _ (y : Layout) (w : List ℕ) (room : Room y (length w)) (k base : ℕ) (ek : k ≡ hostsRow (y .blocks))
-    (eb : base ≡ total (take k (scratchWidths y))) where
-  -- where it lies in the words
-  hosts-there : Lies (scratchWidths y) w k base (y .words)
-  hosts-there = row-lies w room (record { low = omega arith; high = omega arith }) eb
-
-  -- it is inside
-  pub hosts-inside : base + y .words ≤ length w
-  hosts-inside = lies-fits hosts-there
-
-  -- it is stored
-  pub hosts-stored : (p : Parts) (w′ : List ℕ) → w′ ≡ patched w base (hostRow p (y .words))
-      → scratch y w′ ≡ storeCell (scratch y w) (hostsRow (y .blocks)) (hostRow p (y .words))
-  unfolding scratch
-  hosts-stored p w′ e =
-      lies-patched hosts-there (hostRow p (y .words)) (hosts-long p (y .words)) e
-      ∙ ap (λ (i : ℕ). storeCell (scratch y w) i (hostRow p (y .words))) ek
 
 -- ---- what it stands for
 

@@ -29,17 +29,13 @@ use Rattle.rooms.specs.declared.Staged.the-variants as staging
 use Rattle.rooms.specs.Rooms.{layoutOf, roomsOf, ifMet, Indexes}
 use Rattle.rooms.proofs.RoomLaws.{rooms-yes}
 use Rattle.graph.specs.Graph.{ifOk, stage, graphOf, Graphed}
+use Rattle.graph.proofs.GraphLaws.{staged-met}
 use Rattle.outcome.specs.Outcome.{Outcome, refused, afterGraph, judged}
 use Rattle.judge.specs.declared.Judged.{Judged}
 use Rattle.judge.specs.declared.Judged.the-variants.{Refused}
 use Rattle.judge.specs.Judge.{outcomeBy, refusedAt, Begun, Solves, Accepts, Judges}
 
 -- ---- where `graph` goes on, its layout is that of the script
-
--- behind charges that leave the layout as it is
-staged-layout : (c : Charged) (y y′ : Layout) (left : FlowBudget) → ifMet c (staging.Ok y) ≡ staging.Ok y′ left → y ≡ y′
-staged-layout (charging.Ok b) y y′ left e = cc
-staged-layout (charging.Over b) y y′ left e = let o : _≡_ {A = ℕ} 0 1 = cc in absurd (omega arith)
 
 -- behind the rooms
 rooms-layout : (l : Limits) (y : Layout) (n : ℕ) (lent : Lent) (c : Charged) (y′ : Layout) (left : FlowBudget)
@@ -50,7 +46,7 @@ rooms-layout l y n lent (charging.Over b) y′ left e = let o : _≡_ {A = ℕ} 
 -- behind a stage and such charges
 stage-layout : (l : Limits) (cs : List ℕ) (y : Layout) (r : Staged) (y′ : Layout) (left : FlowBudget)
     → ((z : Layout) (b : FlowBudget) → r ≡ staging.Ok z b → y ≡ z) → ifOk r (stage l cs) ≡ staging.Ok y′ left → y ≡ y′
-stage-layout l cs y (staging.Ok z b) y′ left h e = h z b refl ∙ staged-layout (charged l b cs) z y′ left e
+stage-layout l cs y (staging.Ok z b) y′ left h e = h z b refl ∙ staged-met (charged l b cs) z y′ left e .1
 stage-layout l cs y (staging.Refused n b) y′ left h e = let o : _≡_ {A = ℕ} 0 1 = cc in absurd (omega arith)
 
 graph-layout : (s : List ℕ) (x : Script) (l : Limits) (lent : Lent) (n : ℕ) (b : FlowBudget) (y : Layout) (left : FlowBudget)

@@ -4,7 +4,6 @@ use mathlib.Core.List.{List}
 use Prim.Native.Nat.{ℕ, _*_, _-_, _^_, _≤_, _<_}
 use native.Mathlib.Omega.{arith}
 use lib.ListN.{length}
-use Rattle.bitset.specs.Sets.{member}
 use Rattle.budget.specs.declared.FlowBudget.{FlowBudget}
 use Rattle.budget.specs.declared.Limits.{Limits}
 use Rattle.budget.specs.declared.Charged.{Charged}
@@ -12,7 +11,7 @@ use Rattle.budget.specs.declared.Charged.the-variants as charging
 use Rattle.budget.specs.Budget.{charged, budgetOf}
 use Rattle.format.specs.declared.refusal.Refusal.the-variants.{WorkLimit}
 use Rattle.memory.specs.Cells.{Mem}
-use Rattle.memory.specs.Names.{offsetCell, initializedRow, liveRow, parametersRow}
+use Rattle.memory.specs.Names.{offsetCell, parametersRow}
 use Rattle.memory.specs.declared.layout.Layout.{Layout}
 use Rattle.memory.specs.Scratch.{scratch, Room}
 use Rattle.memory.specs.Sets.{SetsRoom}
@@ -22,21 +21,24 @@ use Rattle.instructions.specs.Sound.{Sound}
 use Rattle.script.specs.Script.{flowCode, parameterIn}
 use Rattle.script.proofs.ScriptLaws.{code-length}
 use Rattle.edges.proofs.EdgeLaws.{same-word}
+use Rattle.edges.proofs.FlowLaws.{Still, still-then, flows-still}
 use Rattle.blocks.specs.Blocks.{Block}
 use Rattle.outcome.proofs.ScriptedLaws.{scripted}
 use Rattle.fixed_points.specs.FixedPoints.{Scripted, fixedPointsCharges, Fixed}
 use Rattle.fixed_points.specs.Stages.{Flowing}
+use Rattle.fixed_points.proofs.Gathered.{fixed-still}
 use Rattle.verdict.specs.Points.{points}
 use Rattle.points.specs.declared.awaits.Points.{Points}
 use Rattle.points.specs.declared.awaits.Points.the-variants.{Passed}
 use Rattle.points.specs.declared.awaits.Points.the-variants as pointing
 use Rattle.points.specs.Rows.{pointsOf}
 use Rattle.check_points.specs.CheckPoints.{Solved, PointsChecked}
+use Rattle.check_points.proofs.SolvedLaws.{still-running, sets-kept}
 use Rattle.outcome.specs.Outcome.{accepted, afterPoints, afterRounds}
 use Rattle.judge.specs.declared.Judged.{Judged}
 use Rattle.judge.specs.declared.Judged.the-variants.{Accepted, Refused}
 use Rattle.judge.specs.Judge.{outcomeBy, pointed, Begun, Hosted, Finished, Solves}
-use Rattle.judge.proofs.CellsKept.{Still, still-then, flows-still, block-still, all-costs}
+use Rattle.judge.proofs.CellsKept.{block-still, all-costs}
 
 -- ---- the answer of `check_points`
 
@@ -93,11 +95,7 @@ module _ (s : List ℕ) (x : Script) (y : Layout) (m t : Mem) (begun : Begun s x
         (eh : Hosted s x y (scratch y w) m₂) where
       -- the rounds leave what the words hold of the script
       rounds-still : Still y m (scratch y w)
-      rounds-still = record {
-        low = f .others left ec;
-        edges = f .edges left ec;
-        parameters = f .rows left ec (parametersRow (y .blocks)) (omega arith);
-      }
+      rounds-still = fixed-still f ec
 
       -- so does that store
       hosts-still : Still y (scratch y w) m₂
@@ -140,22 +138,14 @@ module _ (s : List ℕ) (x : Script) (y : Layout) (m t : Mem) (begun : Begun s x
       module _ (m₃ t₃ : Mem) (p : Points) (g : PointsChecked s x y l left m₂ m₃ t₁ t₃ p) where
         -- `check_points` leaves what the words hold of the script
         points-still : Still y m₂ m₃
-        points-still = record {
-          low = λ k lt. g .others k (λ e. omega arith) (λ e. omega arith);
-          edges = λ k lo hi. g .others k (λ e. omega arith) (λ e. omega arith);
-          parameters = g .others (parametersRow (y .blocks)) (λ e. omega arith) (λ e. omega arith);
-        }
+        points-still = still-running (record { others = g .others })
 
         -- where it passed, the words hold all of a script that is accepted
         all-finished : (n : ℕ) (last : FlowBudget) → p ≡ Passed n last → Finished s y m₃ t₃
         all-finished n last e = record {
           block = λ d lt. block-still points-still d lt (block-here d lt);
           flows = flows-still points-still (solved .flows);
-          both = record {
-            initialized = λ d i lt li. ap (λ (ws : List ℕ). member ws i) (g .rows n last e (initializedRow d) (omega arith))
-                ∙ solved .sets .initialized d i lt li;
-            live = λ d i lt li. ap (λ (ws : List ℕ). member ws i) (g .rows n last e (liveRow d) (omega arith)) ∙ solved .sets .live d i lt li;
-          };
+          both = sets-kept (g .rows n last e) (solved .sets);
           facts = g .entries n last e;
         }
 
