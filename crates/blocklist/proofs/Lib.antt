@@ -1,3 +1,3 @@
 -- Laws of the block list.
-pub mod ListLaws
 pub mod WordLaws
+pub mod ListLaws

@@ -1,27 +1,26 @@
 -- The words of the list, where they hold each block's record, are the list of document 01. Assumes nothing.
 use mathlib.Core.Path.{_≡_, sym, ap, _∙_}
-use mathlib.Core.Bool.{Bool}
 use mathlib.Core.List.{List, [], _++_, append-nil}
 use Prim.Native.Nat.{ℕ, _+_, _*_, _-_, _/_, _%_, _≤_, _<_}
 use native.Mathlib.Decide.{decLt}
 use native.Mathlib.Nat.{zero-add}
 use native.Mathlib.Omega.{arith}
-use borrow.Author.Tests.{le-ltb, lt-ltb}
 use lib.ListN.{length, getD, replicate, length-append, length-replicate, List·getD-append, getD-replicate}
 use lib.Seq.{ext-getD, getD-drop, getD-append-add}
-use Rattle.dataflow.specs.Lists.{pick, range, tabulate}
+use Rattle.dataflow.specs.Lists.{range, tabulate}
 use Rattle.dataflow.proofs.Lists.{length-tabulate, getD-tabulate}
 use Rattle.memory.specs.Cells.{Mem}
 use Rattle.outcome.specs.Buffers.{joined, padded}
-use Rattle.outcome.proofs.JoinedLaws.{joined-length, joined-at}
+use Rattle.outcome.proofs.JoinedLaws.{joined-at, joined-range}
 use Rattle.blocklist.specs.List.{recordIn, listWord, listWords}
+use Rattle.blocklist.proofs.WordLaws.{word-inside, word-behind}
 
 module _ (m : Mem) (f : ℕ → List ℕ) (six : (c : ℕ) → length (f c) ≡ 6) (blocks n : ℕ) (is : (c : ℕ) → c < blocks → recordIn m c ≡ f c) (fits : 6 * blocks ≤ n) where
   abbrev all : List ℕ
   all = joined f (range 0 blocks)
 
   all-long : length all ≡ blocks * 6
-  all-long = joined-length f 6 six (range 0 blocks) ∙ ap (λ (k : ℕ). k * 6) (length-tabulate 0 blocks (λ i. i))
+  all-long = joined-range f 6 six blocks
 
   -- word k of the records
   all-at : (k : ℕ) → k / 6 < blocks → getD all k 0 ≡ getD (f (k / 6)) (k % 6) 0
@@ -38,15 +37,14 @@ module _ (m : Mem) (f : ℕ → List ℕ) (six : (c : ℕ) → length (f c) ≡ 
 
   -- word k of the list
   word-at : (k : ℕ) → k < n → Dec (k / 6 < blocks) → listWord m blocks k ≡ getD (padded n all) k 0
-  unfolding listWord
   word-at k lt (yes q) =
-      ap (λ (b : Bool). pick b (getD (recordIn m (k / 6)) (k % 6) 0) 0) (lt-ltb (k / 6) blocks q)
+      sym (word-inside m blocks k q)
       ∙ ap (λ (l : List ℕ). getD l (k % 6) 0) (is (k / 6) q)
       ∙ sym (all-at k q)
       ∙ sym (List·getD-append all (replicate (n - length all) 0) 0 k (omega (arith, all-long)))
   word-at k lt (no q) =
       let past : k ≡ length all + (k - length all) = omega (arith, all-long) in
-      ap (λ (b : Bool). pick b (getD (recordIn m (k / 6)) (k % 6) 0) 0) (le-ltb (k / 6) blocks (omega arith))
+      sym (word-behind m blocks k (omega arith))
       ∙ sym (ap (λ (j : ℕ). getD (padded n all) j 0) past
       ∙ getD-append-add all (replicate (n - length all) 0) (k - length all) 0
       ∙ getD-replicate (n - length all) (k - length all) 0 0 (omega (arith, all-long)))

@@ -14,6 +14,7 @@ use Rattle.dataflow.specs.Results.{reachable, initEntry, liveExit}
 use Rattle.dataflow.specs.Verdict.{awaitAt}
 use Rattle.budget.specs.declared.FlowBudget.{FlowBudget}
 use Rattle.budget.specs.declared.Limits.{Limits}
+use Rattle.format.specs.declared.refusal.Refusal.{Refusal}
 use Rattle.memory.specs.Cells.{Mem, cell, word, storeCell}
 use Rattle.memory.specs.Names.{flag, costCell, startCell, endCell, reachableCell, stateRow, liveStateRow}
 use Rattle.memory.specs.Scratch.{scratch, Room}
@@ -63,6 +64,10 @@ abbrev passed : Points → Bool
 passed (Passed n b) = true
 passed (Refused r b) = false
 
+-- one that refuses did not
+pub not-passed : {z : Refusal} {b : FlowBudget} {n : ℕ} {left : FlowBudget} → Refused z b ≡ Passed n left → ⊥
+not-passed e = false≢true (ap passed e)
+
 -- the reads are not filled
 abbrev pub NotFilled : Reads → Type 0
 NotFilled r = (n : ℕ) (left : FlowBudget) → r ≡ Filled n left → ⊥
@@ -83,9 +88,9 @@ unfilled-stops (Over b) h f = refl
 
 -- an answer of the reads that refuses is none that passed
 refused-not-passed : (r : Reads) {n : ℕ} {left : FlowBudget} → refusedBy r ≡ Passed n left → ⊥
-refused-not-passed (Filled k b) e = false≢true (ap passed e)
-refused-not-passed (Unfilled b) e = false≢true (ap passed e)
-refused-not-passed (Over b) e = false≢true (ap passed e)
+refused-not-passed (Filled k b) e = not-passed e
+refused-not-passed (Unfilled b) e = not-passed e
+refused-not-passed (Over b) e = not-passed e
 
 -- the answer of a run does not say how many awaits are reached
 raised-answer : (next : ℕ) (q : Points) → pointsOf (raisedTo next q) ≡ pointsOf q
@@ -96,7 +101,7 @@ raised-answer next (Refused r b) = refl
 raised-place : (next : ℕ) (q : Points) {n : ℕ} {left : FlowBudget} → raisedTo next q ≡ Passed n left
     → (k : ℕ) × (q ≡ Passed k left) × (next ≡ n)
 raised-place next (Passed k b) e = (k, ap (Passed k) (same-budget e), same-place e)
-raised-place next (Refused r b) e = absurd (false≢true (ap passed e))
+raised-place next (Refused r b) e = absurd (not-passed e)
 
 -- ---- the parts of a block's run
 

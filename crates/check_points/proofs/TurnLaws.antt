@@ -1,6 +1,5 @@
 -- `check_points`: the blocks in turn, and the answer for each way out of the loop. Assumes nothing.
 use mathlib.Core.Path.{_≡_, refl, sym, ap, subst, _∙_}
-use mathlib.Core.Bool.{Bool, true, false, false≢true}
 use mathlib.Core.List.{List, [], _∷_, _++_, append-nil}
 use Prim.Native.Nat.{ℕ, suc, _+_, _-_, _*_, _≤_, _<_}
 use native.Mathlib.Nat.{add-zero}
@@ -23,7 +22,7 @@ use Rattle.points.specs.Rows.{pointsOf, Entry, Entries}
 use Rattle.check_points.specs.CheckPoints.{codeOf, Solved, factsOf, Facing, BlockChecked, PointsChecked}
 use Rattle.check_points.proofs.SolvedLaws.{RunningOnly, running-then, solved-kept, solved-sets}
 use Rattle.check_points.proofs.SpanLaws.{blocks-append, points-few}
-use Rattle.check_points.proofs.CheckedLaws.{same-place}
+use Rattle.check_points.proofs.CheckedLaws.{same-place, not-passed}
 
 -- ---- entries
 
@@ -174,18 +173,11 @@ module _ {s : List ℕ} {x : Script} {y : Layout} {l : Limits} {b : FlowBudget} 
             ∙ ap (λ (c : Checking). andThen c (runOver s x y l
             (range (block + 1) (y .blocks - (block + 1))))) (sym (ap pointsOf e) ∙ p .answer)
             ∙ run-block;
-        count = λ n k q. absurd (apart (sym e ∙ q));
-        entries = λ n k q. absurd (apart (sym e ∙ q));
-        rows = λ n k q. absurd (apart (sym e ∙ q));
+        count = λ n k q. absurd (not-passed (sym e ∙ q));
+        entries = λ n k q. absurd (not-passed (sym e ∙ q));
+        rows = λ n k q. absurd (not-passed (sym e ∙ q));
         others = running-then (h .others) only .others;
       }
-        where
-          passed : Points → Bool
-          passed (Passed n b) = true
-          passed (Refused r b) = false
-
-          apart : {n : ℕ} {k : FlowBudget} → Refused z last ≡ Passed n k → ⊥
-          apart q = false≢true (ap passed q)
 
       -- a block passed
       pub turned-more : {n : ℕ} {last : FlowBudget} → r ≡ Passed n last → Turned s x y l b (block + 1) n last m m″ t t″

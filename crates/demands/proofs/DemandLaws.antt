@@ -100,6 +100,17 @@ module _ (s : List ℕ) (l : Limits) (n : Lengths) (b : FlowBudget) where
   due-accepted : (id blocks awaits : ℕ) (left : FlowBudget) → Due s l n b (accepted id blocks awaits left) → Accepting id blocks awaits left
   due-accepted id blocks awaits left (acceptance z g) = (refl, refl, refl, g)
 
+  -- a script that is accepted passed the checks
+  pub accepted-sound : (id blocks awaits : ℕ) (left : FlowBudget) → outcomeOf s l n b ≡ accepted id blocks awaits left → Sound s (scriptOf s)
+  accepted-sound id blocks awaits left e =
+      sound-script s (checks-passed (on left) (due-accepted id blocks awaits left (table s l n b (accepted id blocks awaits left) .1 e) .3))
+
+  -- and its awaits are counted
+  pub accepted-count : (id blocks awaits : ℕ) (left : FlowBudget) → outcomeOf s l n b ≡ accepted id blocks awaits left
+      → awaits ≡ length (points (code s) (parameter s) (layout s l n b .words))
+  accepted-count id blocks awaits left e =
+      due-accepted id blocks awaits left (table s l n b (accepted id blocks awaits left) .1 e) .2
+
   accepts-all : (id awaits : ℕ) (left : FlowBudget) → id ≡ idOf s → awaits ≡ length (points (code s) (parameter s) (width s)) → Checks s l n b (on left)
       → (v rest : List ℕ) → v ≡ (joined (blockSets (code s) (parameter s) (width s)) (range 0 (blockCount (code s)))
       ++ joined (awaitWords (code s) (parameter s) (width s)) (points (code s) (parameter s) (width s))) ++ rest

@@ -21,16 +21,15 @@ use Rattle.instructions.specs.Sound.{Sound}
 use Rattle.instructions.proofs.Sound.{sound-checked}
 use Rattle.verdict.specs.Points.{points}
 use Rattle.check_points.proofs.SpanLaws.{points-few}
-use Rattle.outcome.specs.Outcome.{Lengths, accepted, afterChecks, judged, outcomeOf}
+use Rattle.outcome.specs.Outcome.{lengthsWith, afterChecks, judged, outcomeOf}
 use Rattle.outcome.specs.Buffers.{padded, setWords, setsAfter}
-use Rattle.demands.specs.Table.{Due, acceptance}
-use Rattle.demands.proofs.TableLaws.{table}
+use Rattle.demands.proofs.DemandLaws.{accepted-count}
 use Rattle.judge.specs.declared.Judged.{Judged}
 use Rattle.judge.specs.declared.Judged.the-variants as judging
-use Rattle.judge.specs.Judge.{outcomeBy, Accepts, Judges}
+use Rattle.judge.specs.Judge.{outcomeWith, AcceptedWords, Judges}
 use Rattle.examine.specs.declared.Examined.{Examined}
 use Rattle.examine.specs.declared.Examined.the-variants.{Accepted, Refused}
-use Rattle.examine.specs.Examine.{lengthsOf, outcomeIn, Listing, Examines}
+use Rattle.examine.specs.Examine.{outcomeIn, Listing, Examines}
 use Rattle.examine.specs.Stages.{zeros, cutAt, answerWords, examinedBy, Acceptable, Finishing, Finishes}
 use Rattle.examine.proofs.ContentLaws.{content}
 use Rattle.examine.proofs.ListingLaws.{listing}
@@ -88,15 +87,9 @@ cut-padded l m k n le long e =
     (let q : length l - k ≡ n - length m = omega (arith, long, ap length e, length-take-le k l le) in q)
 
 -- both name the same answer
-outcome-same : (id : ℕ) (j : Judged) → outcomeIn (examinedBy id j) ≡ outcomeBy id j
+outcome-same : (id : ℕ) (j : Judged) → outcomeIn (examinedBy id j) ≡ outcomeWith id j
 outcome-same id (judging.Accepted y n b) = refl
 outcome-same id (judging.Refused r b) = refl
-
--- an acceptance that is due counts the awaits
-due-count : (s : List ℕ) (l : Limits) (n : Lengths) (b : FlowBudget) (id blocks awaits : ℕ) (left : FlowBudget)
-    → Due s l n b (accepted id blocks awaits left)
-    → awaits ≡ length (points (flowCode (partsOf s)) (parameterIn (partsOf s)) ((scriptOf s .slots + 63) / 64))
-due-count s l n b id blocks awaits left (acceptance z g) = refl
 
 module _ (s : List ℕ) (l : Limits) (records : ℕ) (b : FlowBudget) (w v : List ℕ) (c : Checked) (checks : Checks s c) where
   -- the checks refuse
@@ -104,8 +97,8 @@ module _ (s : List ℕ) (l : Limits) (records : ℕ) (b : FlowBudget) (w v : Lis
       → v′ ≡ zeros v → Examines s l records b w w′ v v′ r
   unfolding outcomeOf
   examines-refused q id w′ v′ r ec er ev = record {
-    answer = ap outcomeIn er ∙ ap (afterChecks s l (lengthsOf w v records) b) (sym ec ∙ checks .answer);
-    sets = ev ∙ ap (λ (z : Examined). setsAfter s (lengthsOf w v records) (outcomeIn z)) (sym er);
+    answer = ap outcomeIn er ∙ ap (afterChecks s l (lengthsWith w v records) b) (sym ec ∙ checks .answer);
+    sets = ev ∙ ap (λ (z : Examined). setsAfter s (lengthsWith w v records) (outcomeIn z)) (sym er);
     listing = λ i y awaits z e. let o : _≡_ {A = ℕ} 0 1 = cc in absurd (omega arith);
   }
 
@@ -114,9 +107,9 @@ module _ (s : List ℕ) (l : Limits) (records : ℕ) (b : FlowBudget) (w v : Lis
     pub sound-here : Sound s x
     sound-here = sound-checked s c x checks ec
 
-    judged-is : judged s x l (lengthsOf w v records) b ≡ outcomeOf s l (lengthsOf w v records) b
+    judged-is : judged s x l (lengthsWith w v records) b ≡ outcomeOf s l (lengthsWith w v records) b
     unfolding outcomeOf
-    judged-is = ap (afterChecks s l (lengthsOf w v records) b) (sym ec ∙ checks .answer)
+    judged-is = ap (afterChecks s l (lengthsWith w v records) b) (sym ec ∙ checks .answer)
 
     script-is : x ≡ scriptOf s
     script-is = passed s x (sym (checks .answer) ∙ ec) .1
@@ -124,14 +117,13 @@ module _ (s : List ℕ) (l : Limits) (records : ℕ) (b : FlowBudget) (w v : Lis
     module _ (j : Judged) (w₁ v₁ : List ℕ) (h : Judges s x l records b w w₁ v v₁ j) where
       -- it accepted
       module _ (y : Layout) (awaits : ℕ) (left : FlowBudget) (e : j ≡ judging.Accepted y awaits left) where
-        holds : Accepts s x (record { sets = length v; records = records }) w₁ v₁ y
+        holds : AcceptedWords s x (record { sets = length v; records = records }) w₁ v₁ y
         holds = h .accepts y awaits left e
 
         count : awaits ≡ length (points (flowCode (partsOf s)) (parameterIn (partsOf s)) (y .words))
         count =
-            due-count s l (lengthsOf w v records) b (x .id) (y .blocks) awaits left
-            (table s l (lengthsOf w v records) b (accepted (x .id) (y .blocks) awaits left) .1
-            (sym (h .answer ∙ judged-is) ∙ ap (outcomeBy (x .id)) e))
+            accepted-count s l (lengthsWith w v records) b (x .id) (y .blocks) awaits left
+            (sym (h .answer ∙ judged-is) ∙ ap (outcomeWith (x .id)) e)
             ∙ ap (λ (z : Script). length (points (flowCode (partsOf s)) (parameterIn (partsOf s)) ((z .slots + 63) / 64))) (sym script-is)
             ∙ ap (λ (k : ℕ). length (points (flowCode (partsOf s)) (parameterIn (partsOf s)) k)) (sym (holds .words))
 
@@ -157,7 +149,7 @@ module _ (s : List ℕ) (l : Limits) (records : ℕ) (b : FlowBudget) (w v : Lis
 
       module _ (fit : (i : ℕ) → getD v₁ i 0 < 2 ^ 64) (long : length v₁ ≡ length v) (v₂ : List ℕ) (r : Examined)
           (f : Finishes (x .id) j v₁ v₂ r) where
-        answer-is : outcomeIn r ≡ outcomeOf s l (lengthsOf w v records) b
+        answer-is : outcomeIn r ≡ outcomeOf s l (lengthsWith w v records) b
         answer-is = ap outcomeIn (f .answer) ∙ outcome-same (x .id) j ∙ h .answer ∙ judged-is
 
         accepted-on : (y : Layout) (awaits : ℕ) (left : FlowBudget) → j ≡ judging.Accepted y awaits left → Examines s l records b w w₁ v v₂ r
@@ -168,7 +160,7 @@ module _ (s : List ℕ) (l : Limits) (records : ℕ) (b : FlowBudget) (w v : Lis
               sets = f .kept y awaits left e
                   ∙ cut-padded v₁ (setWords s ((partsOf s .slots + 63) / 64) (y .blocks)) (answerWords y awaits) (length v)
                   (answer-inside y awaits v₁ (acceptable y awaits left e)) long (answer-there y awaits left e fit)
-                  ∙ ap (λ (z : Examined). setsAfter s (lengthsOf w v records) (outcomeIn z)) (sym er);
+                  ∙ ap (λ (z : Examined). setsAfter s (lengthsWith w v records) (outcomeIn z)) (sym er);
               listing = λ id z n q p.
                   let a : y ≡ z = cc in
                   subst (Listing s records w₁) a (listing s x _ w₁ v₁ y (holds y awaits left e));
@@ -180,7 +172,7 @@ module _ (s : List ℕ) (l : Limits) (records : ℕ) (b : FlowBudget) (w v : Lis
             record {
               answer = answer-is;
               sets = f .cleared q left e ∙ ap (λ (n : ℕ). replicate n 0) long
-                  ∙ ap (λ (z : Examined). setsAfter s (lengthsOf w v records) (outcomeIn z)) (sym er);
+                  ∙ ap (λ (z : Examined). setsAfter s (lengthsWith w v records) (outcomeIn z)) (sym er);
               listing = λ id y n z p. let o : _≡_ {A = ℕ} 0 1 = cc in absurd (omega arith);
             }
 

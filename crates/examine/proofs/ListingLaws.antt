@@ -15,7 +15,7 @@ use Rattle.memory.specs.declared.layout.Layout.{Layout}
 use Rattle.sheet.specs.declared.script.Script.{Script}
 use Rattle.rooms.specs.declared.Lent.{Lent}
 use Rattle.blocks.specs.Blocks.{Block}
-use Rattle.judge.specs.Judge.{Accepts}
+use Rattle.judge.specs.Judge.{AcceptedWords}
 use Rattle.outcome.specs.Buffers.{blockRecord}
 use Rattle.blocklist.specs.List.{recordIn}
 use Rattle.examine.specs.Examine.{Listing}
@@ -37,7 +37,7 @@ module _ {code : List Instruction} {parameter : ℕ → Bool} {m : Mem} {c : ℕ
       let f : word m successorCell (2 * c + 1) ≡ getD (blockSuccessors code c) 1 0 = edge-is 1 (omega arith) in
       rw (h .start, h .end, reached, h .counted, e, f) refl
 
-pub listing : (s : List ℕ) (x : Script) (lent : Lent) (w v : List ℕ) (y : Layout) → Accepts s x lent w v y → Listing s (lent .records) w y
+pub listing : (s : List ℕ) (x : Script) (lent : Lent) (w v : List ℕ) (y : Layout) → AcceptedWords s x lent w v y → Listing s (lent .records) w y
 listing s x lent w v y a = record {
   room = a .room;
   lent = a .records;

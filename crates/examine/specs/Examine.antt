@@ -9,15 +9,11 @@ use Rattle.memory.specs.declared.layout.Layout.{Layout}
 use Rattle.memory.specs.Scratch.{scratch, Room}
 use Rattle.sheet.specs.Decode.{partsOf}
 use Rattle.script.specs.Script.{flowCode, parameterIn}
-use Rattle.outcome.specs.Outcome.{Lengths, Outcome, accepted, refused, outcomeOf}
+use Rattle.outcome.specs.Outcome.{lengthsWith, Outcome, accepted, refused, outcomeOf}
 use Rattle.outcome.specs.Buffers.{blockRecord, setsAfter}
 use Rattle.blocklist.specs.List.{recordIn}
 use Rattle.examine.specs.declared.Examined.{Examined}
 use Rattle.examine.specs.declared.Examined.the-variants.{Accepted, Refused}
-
--- how long the buffers w and v are, with so many block records
-abbrev pub lengthsOf : List ℕ → List ℕ → ℕ → Lengths
-lengthsOf w v records = record { scratch = length w; sets = length v; records = records }
 
 -- the answer
 abbrev pub outcomeIn : Examined → Outcome
@@ -33,6 +29,6 @@ pub record Listing (s : List ℕ) (records : ℕ) (w : List ℕ) (y : Layout) : 
 
 -- what `examine` does with the words w of scratch and v of the sets buffer
 pub record Examines (s : List ℕ) (l : Limits) (records : ℕ) (b : FlowBudget) (w w′ v v′ : List ℕ) (r : Examined) : Type 0 where
-  pub answer : outcomeIn r ≡ outcomeOf s l (lengthsOf w v records) b
-  pub sets : v′ ≡ setsAfter s (lengthsOf w v records) (outcomeIn r)
+  pub answer : outcomeIn r ≡ outcomeOf s l (lengthsWith w v records) b
+  pub sets : v′ ≡ setsAfter s (lengthsWith w v records) (outcomeIn r)
   pub listing : (id : ℕ) (y : Layout) (awaits : ℕ) (left : FlowBudget) → r ≡ Accepted id y awaits left → Listing s records w′ y

@@ -6,9 +6,8 @@ use Prim.Native.Nat.{ℕ, _/_, _%_}
 use lib.ListN.{length, replicate}
 use Rattle.budget.specs.declared.FlowBudget.{FlowBudget}
 use Rattle.budget.specs.Budget.{todays}
-use Rattle.format.specs.Refusals.{numberOf}
 use Rattle.memory.specs.declared.layout.Layout.{Layout}
-use Rattle.outcome.specs.Outcome.{Lengths, Outcome, accepted, refused, outcomeOf}
+use Rattle.outcome.specs.Outcome.{Lengths, lengthsWith, Outcome, accepted, refused, outcomeOf}
 use Rattle.outcome.specs.Buffers.{listAfter, setsAfter, scratchAfter}
 use Rattle.demands.specs.Demands.{Demands}
 use Rattle.demands.specs.Table.{Due}
@@ -22,14 +21,9 @@ abbrev pub outcomeBy : Answer → Outcome
 outcomeBy (Accepted id blocks awaits b) = accepted id blocks awaits b
 outcomeBy (Refused r id b) = refused r id b
 
--- its number: 0 for an acceptance
-abbrev pub numberBy : Outcome → ℕ
-numberBy (accepted id blocks awaits b) = 0
-numberBy (refused r id b) = numberOf r
-
 -- how long the lent buffers are: six words a block record
 abbrev pub lengthsOf : List ℕ → List ℕ → List ℕ → Lengths
-lengthsOf list v w = record { scratch = length w; sets = length v; records = length list / 6 }
+lengthsOf list v w = lengthsWith w v (length list / 6)
 
 -- What `verify` does with a sheet s, a budget b, and the words of the block list, of the sets buffer and of scratch (primed: at exit).
 pub record Verified (s : List ℕ) (b : FlowBudget) (list list′ v v′ w w′ : List ℕ) (r : Answer) : Type 0 where

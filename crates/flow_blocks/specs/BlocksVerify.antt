@@ -9,7 +9,7 @@ use Rattle.budget.specs.declared.FlowBudget.{FlowBudget}
 use Rattle.budget.specs.Budget.{todays}
 use Rattle.sheet.specs.Decode.{partsOf}
 use Rattle.script.specs.Script.{flowCode, parameterIn}
-use Rattle.outcome.specs.Outcome.{Lengths, Outcome, accepted, refused, outcomeOf}
+use Rattle.outcome.specs.Outcome.{Lengths, lengthsWith, Outcome, accepted, refused, outcomeOf}
 use Rattle.outcome.specs.Buffers.{blockRecord, setsAfter, scratchAfter}
 use Rattle.demands.specs.Demands.{Demands}
 use Rattle.demands.specs.Table.{Due}
@@ -41,7 +41,7 @@ module _ (s : List ℕ) where
 
 -- how long the lent buffers are
 abbrev pub lengthsOf : List Block → List ℕ → List ℕ → Lengths
-lengthsOf list v w = record { scratch = length w; sets = length v; records = length list }
+lengthsOf list v w = lengthsWith w v (length list)
 
 -- What `verify` does with a sheet s, a budget b, the block list, and the words of the sets buffer and of scratch (primed: at exit).
 pub record BlocksVerified (s : List ℕ) (b : FlowBudget) (list list′ : List Block) (v v′ w w′ : List ℕ) (r : Answer) : Type 0 where

@@ -30,10 +30,10 @@ use Rattle.rooms.specs.Rooms.{layoutOf, roomsOf, ifMet, Indexes}
 use Rattle.rooms.proofs.RoomLaws.{rooms-yes}
 use Rattle.graph.specs.Graph.{ifOk, stage, graphOf, Graphed}
 use Rattle.graph.proofs.GraphLaws.{staged-met}
-use Rattle.outcome.specs.Outcome.{Outcome, refused, afterGraph, judged}
+use Rattle.outcome.specs.Outcome.{lengthsWith, Outcome, refused, afterGraph, judged}
 use Rattle.judge.specs.declared.Judged.{Judged}
 use Rattle.judge.specs.declared.Judged.the-variants.{Refused}
-use Rattle.judge.specs.Judge.{outcomeBy, refusedAt, Begun, Solves, Accepts, Judges}
+use Rattle.judge.specs.Judge.{outcomeWith, refusedAt, Begun, Solves, AcceptedWords, Judges}
 
 -- ---- where `graph` goes on, its layout is that of the script
 
@@ -78,14 +78,14 @@ module _ (s : List ℕ) (x : Script) (l : Limits) (records : ℕ) (b : FlowBudge
   -- enough is lent, and `graph` was called
   module _ (enough : 4 * x .count ≤ length w) (w₁ v₁ : List ℕ) (g : Staged) (f : Graphed s x l records b w w₁ v v₁ g) where
     -- the answer is what follows that of `graph`
-    answer-on : afterGraph s x l g ≡ judged s x l (record { scratch = length w; sets = length v; records = records }) b
+    answer-on : afterGraph s x l g ≡ judged s x l (lengthsWith w v records) b
     answer-on = ap (afterGraph s x l) (f .answer) ∙ ap answer-if (sym (le-ltb (length w) (4 * x .count) enough))
 
     -- `graph` refused
     pub judges-refused : (n : Refusal) (z : FlowBudget) (r : Judged) → g ≡ staging.Refused n z → r ≡ refusedAt g
         → Judges s x l records b w w₁ v v₁ r
     judges-refused n z r e er = record {
-      answer = ap (outcomeBy (x .id)) (er ∙ ap refusedAt e) ∙ ap (afterGraph s x l) (sym e) ∙ answer-on;
+      answer = ap (outcomeWith (x .id)) (er ∙ ap refusedAt e) ∙ ap (afterGraph s x l) (sym e) ∙ answer-on;
       accepts = λ y awaits left q. let o : _≡_ {A = ℕ} 0 1 = cc in absurd (omega arith);
     }
 
@@ -124,7 +124,7 @@ module _ (s : List ℕ) (x : Script) (l : Limits) (records : ℕ) (b : FlowBudge
         answer = h .answer ∙ ap (afterGraph s x l) (sym e) ∙ answer-on;
         accepts = λ z awaits last q.
             let k = h .finished z awaits last q in
-            subst (λ (u : Layout). Accepts s x (record { sets = length v; records = records }) w₂ v₂ u) (sym (k .0))
+            subst (λ (u : Layout). AcceptedWords s x (record { sets = length v; records = records }) w₂ v₂ u) (sym (k .0))
             (record {
               fits = indexes .fits;
               words = words-are;

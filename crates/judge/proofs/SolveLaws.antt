@@ -37,7 +37,7 @@ use Rattle.check_points.proofs.SolvedLaws.{still-running, sets-kept}
 use Rattle.outcome.specs.Outcome.{accepted, afterPoints, afterRounds}
 use Rattle.judge.specs.declared.Judged.{Judged}
 use Rattle.judge.specs.declared.Judged.the-variants.{Accepted, Refused}
-use Rattle.judge.specs.Judge.{outcomeBy, pointed, Begun, Hosted, Finished, Solves}
+use Rattle.judge.specs.Judge.{outcomeWith, pointed, Begun, Hosted, Finished, Solves}
 use Rattle.judge.proofs.CellsKept.{block-still, all-costs}
 
 -- ---- the answer of `check_points`
@@ -45,7 +45,7 @@ use Rattle.judge.proofs.CellsKept.{block-still, all-costs}
 -- as that of the whole, if it counts the awaits
 pointed-is : (s : List ℕ) (x : Script) (l : Limits) (y : Layout) (p : Points)
     → ((n : ℕ) (left : FlowBudget) → p ≡ Passed n left → n ≡ length (points (flowCode (partsOf s)) (parameterIn (partsOf s)) (y .words)))
-    → outcomeBy (x .id) (pointed y p) ≡ afterPoints s x l y (pointsOf p)
+    → outcomeWith (x .id) (pointed y p) ≡ afterPoints s x l y (pointsOf p)
 pointed-is s x l y (Passed n b) h = ap (λ (k : ℕ). accepted (x .id) (y .blocks) k b) (h n b refl)
 pointed-is s x l y (pointing.Refused r b) h = refl
 
@@ -85,7 +85,7 @@ module _ (s : List ℕ) (x : Script) (y : Layout) (m t : Mem) (begun : Begun s x
     pub solves-over : (z : FlowBudget) (m′ t′ : Mem) (r : Judged) → c ≡ charging.Over z → r ≡ Refused WorkLimit (budgetOf c)
         → Solves s x y l b m′ t′ r
     solves-over z m′ t′ r eo er = record {
-      answer = ap (outcomeBy (x .id)) (er ∙ ap (λ (d : Charged). Refused WorkLimit (budgetOf d)) eo)
+      answer = ap (outcomeWith (x .id)) (er ∙ ap (λ (d : Charged). Refused WorkLimit (budgetOf d)) eo)
           ∙ ap (afterRounds s x l y) (sym eo ∙ rounds-charged);
       finished = λ y′ awaits left q. let o : _≡_ {A = ℕ} 0 1 = cc in absurd (omega arith);
     }
@@ -152,7 +152,7 @@ module _ (s : List ℕ) (x : Script) (y : Layout) (m t : Mem) (begun : Begun s x
         -- its answer is that of all
         pub solves-on : (r : Judged) → r ≡ pointed y p → Solves s x y l b m₃ t₃ r
         solves-on r er = record {
-          answer = ap (outcomeBy (x .id)) er ∙ pointed-is s x l y p (g .count) ∙ ap (afterPoints s x l y) (g .answer)
+          answer = ap (outcomeWith (x .id)) er ∙ pointed-is s x l y p (g .count) ∙ ap (afterPoints s x l y) (g .answer)
               ∙ ap (afterRounds s x l y) (sym ec ∙ rounds-charged);
           finished = λ z awaits last q.
               let a = accepted-passed y z p awaits last (sym er ∙ q) in

@@ -26,7 +26,7 @@ use Rattle.fixed_points.specs.FixedPoints.{Sets, fixedPointsCharges}
 use Rattle.graph.specs.Graph.{Holding}
 use Rattle.answer.specs.Words.{Means}
 use Rattle.verdict.specs.Points.{points}
-use Rattle.outcome.specs.Outcome.{Outcome, accepted, refused, afterRounds, judged}
+use Rattle.outcome.specs.Outcome.{lengthsWith, Outcome, accepted, refused, afterRounds, judged}
 use Rattle.points.specs.declared.awaits.Points.{Points}
 use Rattle.points.specs.declared.awaits.Points.the-variants.{Passed}
 use Rattle.points.specs.declared.awaits.Points.the-variants as pointing
@@ -35,9 +35,9 @@ use Rattle.judge.specs.declared.Judged.{Judged}
 use Rattle.judge.specs.declared.Judged.the-variants.{Accepted, Refused}
 
 -- an answer as that of the call, for the function with this id
-abbrev pub outcomeBy : ℕ → Judged → Outcome
-outcomeBy id (Accepted y n b) = accepted id (y .blocks) n b
-outcomeBy id (Refused r b) = refused r id b
+abbrev pub outcomeWith : ℕ → Judged → Outcome
+outcomeWith id (Accepted y n b) = accepted id (y .blocks) n b
+outcomeWith id (Refused r b) = refused r id b
 
 -- what `solve` begins with
 pub record Begun (s : List ℕ) (x : Script) (y : Layout) (m t : Mem) : Type 0 where
@@ -61,7 +61,7 @@ pub record Finished (s : List ℕ) (y : Layout) (m t : Mem) : Type 0 where
 
 -- what `solve` does: an answer that accepts carries the layout that it was given
 pub record Solves (s : List ℕ) (x : Script) (y : Layout) (l : Limits) (b : FlowBudget) (m′ t′ : Mem) (r : Judged) : Type 0 where
-  pub answer : outcomeBy (x .id) r
+  pub answer : outcomeWith (x .id) r
       ≡ afterRounds s x l y (charged l b (fixedPointsCharges (flowCode (partsOf s)) (parameterIn (partsOf s)) (y .words)))
   pub finished : (z : Layout) (awaits : ℕ) (left : FlowBudget) → r ≡ Accepted z awaits left → (z ≡ y) × Finished s y m′ t′
 
@@ -76,7 +76,7 @@ pointed y (Passed n b) = Accepted y n b
 pointed y (pointing.Refused r b) = Refused r b
 
 -- of the words of both buffers, w and v: they have room, and they hold a script that is accepted
-pub record Accepts (s : List ℕ) (x : Script) (lent : Lent) (w v : List ℕ) (y : Layout) : Type 0 where
+pub record AcceptedWords (s : List ℕ) (x : Script) (lent : Lent) (w v : List ℕ) (y : Layout) : Type 0 where
   pub fits : Fits s x y
   pub words : y .words ≡ (x .slots + 63) / 64
   pub awaits : y .awaits ≡ x .awaits
@@ -87,6 +87,6 @@ pub record Accepts (s : List ℕ) (x : Script) (lent : Lent) (w v : List ℕ) (y
 
 -- what `judge` does
 pub record Judges (s : List ℕ) (x : Script) (l : Limits) (records : ℕ) (b : FlowBudget) (w w′ v v′ : List ℕ) (r : Judged) : Type 0 where
-  pub answer : outcomeBy (x .id) r ≡ judged s x l (record { scratch = length w; sets = length v; records = records }) b
+  pub answer : outcomeWith (x .id) r ≡ judged s x l (lengthsWith w v records) b
   pub accepts : (y : Layout) (awaits : ℕ) (left : FlowBudget) → r ≡ Accepted y awaits left
-      → Accepts s x (record { sets = length v; records = records }) w′ v′ y
+      → AcceptedWords s x (record { sets = length v; records = records }) w′ v′ y

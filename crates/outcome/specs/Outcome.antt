@@ -31,6 +31,10 @@ pub record Lengths : Type 0 where
   pub sets : ℕ
   pub records : ℕ
 
+-- those of the words w of scratch and v of the sets buffer, with so many block records
+abbrev pub lengthsWith : List ℕ → List ℕ → ℕ → Lengths
+lengthsWith w v records = record { scratch = length w; sets = length v; records = records }
+
 -- the answer: accepted with function id, B, the number of reachable awaits and the budget; or refused with function id and budget
 pub data Outcome : Type 0 where
   accepted : (id blocks awaits : ℕ) → FlowBudget → Outcome

@@ -9,6 +9,7 @@ use lib.Dec.{leb}
 use lib.ListN.{length, length-append}
 use Rattle.dataflow.specs.Lists.{pick, range, every, some}
 use Rattle.dataflow.specs.Charges.{Spent, within, crossed, saturatingSum, spend}
+use Rattle.dataflow.proofs.Charges.{sum-exact}
 use Rattle.dataflow.specs.Analyses.{initTransfer, liveAlong}
 use Rattle.dataflow.specs.Code.{Instruction, instructionAt, program, body}
 use Rattle.dataflow.specs.Results.{blockCount, reachable, initEntry, liveExit}
@@ -205,7 +206,4 @@ module _ (code : List Instruction) (parameter : ℕ → Bool) (l : Limits) where
         → left .retained ≡ b .retained + length (points code parameter words) * factsBytes words
     retained-grows b left h e =
         let n : ℕ = length (points code parameter words) * factsBytes words in
-        retained-sum b left (omega (arith, h)) e ∙ plain (b .retained) n h
-      where
-        plain : (r n : ℕ) → r + n ≤ 2 ^ 64 - 1 → saturatingSum r n ≡ r + n
-        plain r n h = omega arith
+        retained-sum b left (omega (arith, h)) e ∙ sum-exact (b .retained) n h

@@ -1,8 +1,5 @@
-use Rattle.flow.proofs.VerifyLaws.{at-todays, fill-asks, verified}
-use Rattle.budget.specs.declared.Limits.{Limits}
+use Rattle.flow.proofs.VerifyLaws.{at-todays, todays-below, fill-asks, verified}
 use native.Mathlib.Omega.{arith}
-use Prim.Native.Nat.{_-_, _^_, _<_}
-use mathlib.Core.Path.{sym, subst}
 use borrow.Author.Needs.{needs}
 use Rattle.flow.proofs.verify.Statement.{statement}
 use Rattle.flow.proofs.verify.Tie as tie
@@ -21,7 +18,7 @@ todays-requires c κs = search needs
 
 -- src/lib.rt:29:9
 examine-requires : tie.Need-examine-requires
-examine-requires c κs = subst (λ (l : Limits). l .work < 2 ^ 64 - 1) (sym (c .todays .ensures)) (omega arith)
+examine-requires c κs = todays-below (c .todays .ensures)
 
 -- src/lib.rt:37:38
 layout-of-requires : tie.Need-layout-of-requires
@@ -29,7 +26,7 @@ layout-of-requires c κs = search needs
 
 -- src/lib.rt:37:5
 fill-requires : tie.Need-fill-requires
-fill-requires c κs = fill-asks _ _ (c .before .before .before .before .before .before .before .before .before .before .before .before .before .before .before .args .blocks .now) _ _ _ _ _ (at-todays (c .before .before .before .before .before .before .before .before .todays .ensures) (c .before .before .before .before .before .before .before .examine .ensures)) _ (c .layout-of .ensures)
+fill-requires c κs = fill-asks (at-todays (c .before .before .before .before .before .before .before .before .todays .ensures) (c .before .before .before .before .before .before .before .examine .ensures)) _ (c .layout-of .ensures)
 
 -- src/lib.rt:38:5
 clear-requires : tie.Need-clear-requires

@@ -1,10 +1,6 @@
 -- `flow_blocks::examined` meets its contract. Assumes nothing.
-use mathlib.Core.Path.{sym, subst}
-use Prim.Native.Nat.{_-_, _^_, _<_}
-use native.Mathlib.Omega.{arith}
 use borrow.Author.Needs.{needs}
-use Rattle.budget.specs.declared.Limits.{Limits}
-use Rattle.flow.proofs.VerifyLaws.{at-todays}
+use Rattle.flow.proofs.VerifyLaws.{at-todays, todays-below}
 use Rattle.flow_blocks.proofs.examined.Statement.{statement}
 use Rattle.flow_blocks.proofs.examined.Tie as tie
 
@@ -12,7 +8,7 @@ todays-requires : tie.Need-todays-requires
 todays-requires c κs = search needs
 
 examine-requires : tie.Need-examine-requires
-examine-requires c κs = subst (λ (l : Limits). l .work < 2 ^ 64 - 1) (sym (c .todays .ensures)) (omega arith)
+examine-requires c κs = todays-below (c .todays .ensures)
 
 same-length : tie.Need-same-length
 same-length c = search needs

@@ -68,7 +68,8 @@ use Rattle.flow.proofs.Answer as An
 use Rattle.flow.proofs.Answer.Laws as An′
 use Rattle.flow_blocks.proofs.Again.{LentAgain, lends-again, comes-back}
 use Rattle.flow_blocks.proofs.Forms.{word, bytes, list, words, mut-word, mut-words, mut-block, mut-blocks, imm-word, imm-words, asks-no-more}
-use Rattle.flow_blocks.proofs.BlockLaws.{fill-asks, blocks-verified}
+use Rattle.flow.proofs.VerifyLaws.{fill-asks}
+use Rattle.flow_blocks.proofs.BlockLaws.{blocks-verified}
 use Rattle.block_records.proofs.fill as fill
 use Rattle.block_records.proofs.fill.Symbol as fill-def
 use Rattle.block_records.proofs.fill.Symbol.{name as #block-records·fill}
@@ -205,7 +206,7 @@ module _ {M : Type 1} (𝓤 : URA M) (H : Heap 𝓤) (A : Atoms 𝓤) (W : Given
     goes-fill : (ν : ℕ) (δ : GName) (p : Layout) → p ≡ layoutIn e → (u′ : Val) → Is Y.the-row p (u′ ∷ [])
         → ent 𝓤 (sep 𝓤 (sep 𝓤 (A .lft κ₁ q₁) (A .lft (ν ∷ []) fullShare)) (sep 𝓤 (sem 𝓤 H A OwnB) (sem 𝓤 H A (ShrSlice (named 1) (ν ∷ []) u64 .own (y δ vs) (wv ∷ []))))) (Fill 𝓤 H A mem run .pre (to-fill ν δ vs p u′))
     goes-fill ν δ p ep u′ isp =
-        qed W ((‵ (flft κ₁ q₁) ⊛ ‵ (flft (ν ∷ []) fullShare)) ∷ ‵ OwnB ∷ ‵ (ShrSlice (named 1) (ν ∷ []) u64 .own (y δ vs) (wv ∷ [])) ∷ []) ∵ says ! (fill-asks (z .now) d (x .now) (t .now) us vs ts e h p ep) $
+        qed W ((‵ (flft κ₁ q₁) ⊛ ‵ (flft (ν ∷ []) fullShare)) ∷ ‵ OwnB ∷ ‵ (ShrSlice (named 1) (ν ∷ []) u64 .own (y δ vs) (wv ∷ [])) ∷ []) ∵ says ! (fill-asks h p ep) $
         split ! $ nothing ! $ move ! (2 ∷ 0 ∷ []) $ join ! $ move ! (1 ∷ 0 ∷ []) $ join ! $ frame ! $
         -- [the block list; scratch]
         nothing ! $ owned ! Y.the-row (Is Y.the-row) ((LL.makes Y.the-type Y′.the-plain) 𝓤 H A) p _ isp $ fjoin ! $ move ! (2 ∷ 0 ∷ []) $ fjoin ! $ move ! (1 ∷ 0 ∷ []) $ fjoin ! $ done !
