@@ -3,14 +3,14 @@ use mathlib.Core.Logic.{inl, inr}
 use mathlib.Core.Path.{_≡_, refl, sym, ap, ap₂, _∙_}
 use mathlib.Core.Bool.{Bool, true, false, not, _&&_, _||_, and-true, and-assoc, or-false, or-assoc}
 use mathlib.Core.List.{List, [], _∷_, _++_, append-assoc}
-use Prim.Native.Nat.{ℕ, _+_, _≤_, _<_}
+use Prim.Native.Nat.{ℕ, _+_, _-_, _≤_, _<_}
 use native.Mathlib.Numerals.{add-one}
 use native.Mathlib.Omega.{arith}
 use lib.Bits.{bitAnd, bitOr, bitXor}
 use lib.Dec.{eqb}
 use lib.ListN.{length, take, drop, getD, set, replicate, length-set, length-drop, length-replicate, getD-replicate}
 use lib.Seq.{take-all, take-suc, length-take-le, getD-drop, paste, paste-zero, paste-suc}
-use Rattle.bitset.specs.Sets.{zipped, meet, same, common, within}
+use Rattle.bitset.specs.Sets.{ones, zipped, meet, join, difference, same, common, within}
 use Rattle.bitset.specs.Rows.{row, patched, Apart}
 use Rattle.bitset.proofs.Digits.{differs, or-zero}
 use Rattle.bitset.proofs.SetLaws.{length-zipped, getD-zipped}
@@ -73,12 +73,12 @@ module _ {f : ℕ → ℕ → ℕ} {l : List ℕ} {d : ℕ} {m : List ℕ} {s w 
           ∙ patched-after l d (take k z) (omega (arith, size-k, made .room)) (d + k) (omega (arith, size-k))
 
       -- and so is each word of a row of the slice that is apart
-      other : Apart d s w → getD x (s + k) 0 ≡ getD l (s + k) 0
-      other apart = ap (λ (t : List ℕ). getD t (s + k) 0) (stored .is) ∙ go apart
+      other : (i : ℕ) → Apart d i w → getD x (i + k) 0 ≡ getD l (i + k) 0
+      other i apart = ap (λ (t : List ℕ). getD t (i + k) 0) (stored .is) ∙ go apart
         where
-          go : Apart d s w → getD (patched l d (take k z)) (s + k) 0 ≡ getD l (s + k) 0
-          go (inl h) = patched-after l d (take k z) (omega (arith, size-k, made .room)) (s + k) (omega (arith, size-k))
-          go (inr h) = patched-before l d (take k z) (omega (arith, size-k, made .room)) (s + k) (omega arith)
+          go : Apart d i w → getD (patched l d (take k z)) (i + k) 0 ≡ getD l (i + k) 0
+          go (inl h) = patched-after l d (take k z) (omega (arith, size-k, made .room)) (i + k) (omega (arith, size-k))
+          go (inr h) = patched-before l d (take k z) (omega (arith, size-k, made .room)) (i + k) (omega arith)
 
       -- one turn, with b the word of the source
       turned : (b : ℕ) → b ≡ getD m (s + k) 0 → Stored l d z w (k + 1) (set x (d + k) (f (getD x (d + k) 0) b))
@@ -97,7 +97,45 @@ module _ {f : ℕ → ℕ → ℕ} {l : List ℕ} {d : ℕ} {m : List ℕ} {s w 
 -- a source row of the same slice
 pub stored-within : {f : ℕ → ℕ → ℕ} {l : List ℕ} {d s w : ℕ} {z : List ℕ} → Made f l d l s w z → Apart d s w
     → {k : ℕ} {x : List ℕ} → Stored l d z w k x → k < w → Stored l d z w (k + 1) (set x (d + k) (f (getD x (d + k) 0) (getD x (s + k) 0)))
-stored-within {s} made apart {k} {x} stored turn = turned made stored turn (getD x (s + k) 0) (other made stored turn apart)
+stored-within {s} made apart {k} {x} stored turn = turned made stored turn (getD x (s + k) 0) (other made stored turn s apart)
+
+-- two source rows of the same slice: the row at d loses what is in that at i, then takes in what is in that at j
+abbrev pub replaced : List ℕ → ℕ → ℕ → ℕ → ℕ → List ℕ
+replaced l d i j w = join (difference (row l d w) (row l i w)) (row l j w)
+
+module _ (l : List ℕ) (d i j w : ℕ) (h : d + w ≤ length l) where
+  abbrev lost : List ℕ
+  lost = difference (row l d w) (row l i w)
+
+  long-lost : length lost ≡ w
+  long-lost = length-zipped (λ x y. bitAnd x (ones - y)) (row l d w) (row l i w) ∙ length-row l d w h
+
+  -- a copy of the words that are to stand there
+  pub made-replaced : Made (λ a b. b) l d (replaced l d i j w) 0 w (replaced l d i j w)
+  made-replaced = record {
+    room = h;
+    size = length-zipped bitOr lost (row l j w) ∙ long-lost;
+    each = λ k n. ap (λ (m : ℕ). getD (replaced l d i j w) m 0) (omega arith);
+  }
+
+  word-replaced : (k : ℕ) → k < w
+      → getD (replaced l d i j w) k 0 ≡ bitOr (bitAnd (getD l (d + k) 0) (ones - getD l (i + k) 0)) (getD l (j + k) 0)
+  word-replaced k n =
+      getD-zipped bitOr lost (row l j w) k (omega (arith, long-lost))
+      ∙ ap₂ bitOr
+      (getD-zipped (λ x y. bitAnd x (ones - y)) (row l d w) (row l i w) k (omega (arith, length-row l d w h))
+      ∙ ap₂ (λ (x y : ℕ). bitAnd x (ones - y)) (getD-row l d w k n) (getD-row l i w k n))
+      (getD-row l j w k n)
+
+  pub stored-replaced : Apart d i w → Apart d j w → {k : ℕ} {x : List ℕ} → Stored l d (replaced l d i j w) w k x → k < w
+      → Stored l d (replaced l d i j w) w (k + 1)
+      (set x (d + k) (bitOr (bitAnd (getD x (d + k) 0) (ones - getD x (i + k) 0)) (getD x (j + k) 0)))
+  stored-replaced ai aj {k} {x} stored turn =
+      turned made-replaced stored turn (bitOr (bitAnd (getD x (d + k) 0) (ones - getD x (i + k) 0)) (getD x (j + k) 0))
+      (ap₂ bitOr
+      (ap₂ (λ (u v : ℕ). bitAnd u (ones - v)) (own made-replaced stored turn) (other made-replaced stored turn i ai))
+      (other made-replaced stored turn j aj)
+      ∙ sym (word-replaced k turn) ∙ ap (λ (m : ℕ). getD (replaced l d i j w) m 0) (omega arith))
 
 -- ---- a loop that compares
 same-snoc : (xs ys : List ℕ) (x y : ℕ) → length xs ≡ length ys → same (xs ++ x ∷ []) (ys ++ y ∷ []) ≡ (same xs ys && eqb x y)

@@ -104,14 +104,14 @@ pub fn join_within(words: &mut [u64], d: usize, s: usize, w: usize)
     }
 }
 
-// The row at d loses what is in the row at s of the same slice.
-pub fn subtract_within(words: &mut [u64], d: usize, s: usize, w: usize)
-    requires { ⌜ (d + w ≤ length (now words)) × (s + w ≤ length (now words)) × Apart d s w ⌝ }
-    ensures { λ _. ⌜ now (words .exit) ≡ patched (now (words .entry)) d (difference (row (now (words .entry)) d w) (row (now (words .entry)) s w)) ⌝ }
+// The row at d loses what is in the row at i and then takes in what is in the row at j, all of the same slice, in one pass.
+pub fn replace_within(words: &mut [u64], d: usize, i: usize, j: usize, w: usize)
+    requires { ⌜ (d + w ≤ length (now words)) × (i + w ≤ length (now words)) × (j + w ≤ length (now words)) × Apart d i w × Apart d j w ⌝ }
+    ensures { λ _. ⌜ now (words .exit) ≡ patched (now (words .entry)) d (join (difference (row (now (words .entry)) d w) (row (now (words .entry)) i w)) (row (now (words .entry)) j w)) ⌝ }
 {
     let mut k = 0;
     while k < w {
-        words[d + k] &= !words[s + k];
+        words[d + k] = (words[d + k] & !words[i + k]) | words[j + k];
         k += 1;
     }
 }

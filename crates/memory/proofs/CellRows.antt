@@ -2,12 +2,13 @@
 use mathlib.Core.Logic.{_≢_}
 use mathlib.Core.Path.{_≡_, sym, ap, ap₂, _∙_}
 use mathlib.Core.List.{List, [], _∷_, _++_, append-assoc}
-use Prim.Native.Nat.{ℕ, suc, _+_, _/_, _≤_, _<_}
+use Prim.Native.Nat.{ℕ, suc, _+_, _-_, _/_, _≤_, _<_}
 use native.Mathlib.Numerals.{add-one}
 use native.Mathlib.Omega.{arith}
+use lib.Bits.{bitAnd, bitOr}
 use lib.ListN.{length, take, drop, set, replicate, length-replicate}
 use lib.Seq.{take-suc-set, drop-set-lt}
-use Rattle.bitset.specs.Sets.{member, inserted, removed, zipped}
+use Rattle.bitset.specs.Sets.{ones, member, inserted, removed, zipped, join, difference}
 use Rattle.bitset.specs.Rows.{row, patched, insertedAt, removedAt, Apart}
 use Rattle.bitset.proofs.SetLaws.{length-inserted, length-removed, length-zipped}
 use Rattle.bitset.proofs.RowLaws.{length-row, member-row, inserted-row, removed-row}
@@ -69,6 +70,15 @@ module _ {ns l ms t : List ℕ} {j k d s w : ℕ} (p : Lies ns l j d w) (q : Lie
   lies-zipped f e =
       lies-changed p (λ x. zipped f x (row t s w)) (λ x. length-zipped f x (row t s w)) e
       ∙ ap (λ (x : List ℕ). storeCell (cells ns l) j (zipped f (cell (cells ns l) j) x)) (lies-row q)
+
+-- with two cells
+module _ {ns l : List ℕ} {d k j a b c w : ℕ} (p : Lies ns l d a w) (q : Lies ns l k b w) (r : Lies ns l j c w) where
+  pub lies-replaced : {l′ : List ℕ} → l′ ≡ patched l a (join (difference (row l a w) (row l b w)) (row l c w))
+      → cells ns l′ ≡ storeCell (cells ns l) d (join (difference (cell (cells ns l) d) (cell (cells ns l) k)) (cell (cells ns l) j))
+  lies-replaced e =
+      lies-changed p (λ x. join (difference x (row l b w)) (row l c w))
+      (λ x. length-zipped bitOr (difference x (row l b w)) (row l c w) ∙ length-zipped (λ u v. bitAnd u (ones - v)) x (row l b w)) e
+      ∙ ap₂ (λ (u v : List ℕ). storeCell (cells ns l) d (join (difference (cell (cells ns l) d) u) v)) (lies-row q) (lies-row r)
 
 -- a word and the words behind it, put one after the other
 patched-cons : (l : List ℕ) (base v : ℕ) (ys : List ℕ) → base < length l → patched (set l base v) (base + 1) ys ≡ patched l base (v ∷ ys)

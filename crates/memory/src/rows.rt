@@ -36,13 +36,19 @@ pub fn join(s: &mut [u64], y: Layout, d: usize, k: usize)
     bitset::join_within(s, y.scratch_start(d), y.scratch_start(k), w);
 }
 
-// Row d of scratch loses what is in row k of scratch.
-pub fn subtract(s: &mut [u64], y: Layout, d: usize, k: usize)
-    requires { ⌜ Room y (length (now s)) × Row y d × Row y k × (d ≡ k → ⊥) ⌝ }
-    ensures { λ _. ⌜ scratch y (now (s .exit)) ≡ storeCell (scratch y (now (s .entry))) d (difference (cell (scratch y (now (s .entry))) d) (cell (scratch y (now (s .entry))) k)) ⌝ }
+// Row d of scratch loses what is in row k of scratch and then takes in what is in row j.
+pub fn replace(s: &mut [u64], y: Layout, d: usize, k: usize, j: usize)
+    requires { ⌜ Room y (length (now s)) × Row y d × Row y k × Row y j × (d ≡ k → ⊥) × (d ≡ j → ⊥) ⌝ }
+    ensures { λ _. ⌜ scratch y (now (s .exit)) ≡ storeCell (scratch y (now (s .entry))) d (join (difference (cell (scratch y (now (s .entry))) d) (cell (scratch y (now (s .entry))) k)) (cell (scratch y (now (s .entry))) j)) ⌝ }
 {
     let w = y.words;
-    bitset::subtract_within(s, y.scratch_start(d), y.scratch_start(k), w);
+    bitset::replace_within(
+        s,
+        y.scratch_start(d),
+        y.scratch_start(k),
+        y.scratch_start(j),
+        w,
+    );
 }
 
 // Row d of scratch keeps what is also in row k of the sets buffer.

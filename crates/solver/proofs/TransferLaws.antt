@@ -6,7 +6,7 @@ use native.Mathlib.Omega.{arith}
 use borrow.Author.Tests.{eq-eqb, ne-eqb}
 use lib.ListN.{length, replicate}
 use lib.Seq.{set-set, set-getD}
-use Rattle.bitset.specs.Sets.{ones, meet, join, difference}
+use Rattle.bitset.specs.Sets.{ones, meet}
 use Rattle.memory.specs.Cells.{Mem, cell, word, storeCell}
 use Rattle.memory.specs.Names.{reachableCell, usesRow, definesRow, parametersRow, initializedRow}
 use Rattle.memory.specs.Scratch.{Row}
@@ -213,16 +213,3 @@ module _ (d : Direction) (y : Layout) (m t : Mem) (b : ℕ) (lt : runningRow d y
 pub begun-connected : (d : Direction) (y : Layout) (m : Mem) {m₁ : Mem} (x : List ℕ) → m₁ ≡ storeCell m (runningRow d y) x → Connected y m
     → Connected y m₁
 begun-connected d y m x e c = subst (Connected y) (sym e) (connected-kept (row-edges d y m x) y c)
-
--- what the block defines goes, then what it uses comes
-pub live-transfers : (y : Layout) (m : Mem) (b : ℕ) → runningRow Liveness y < length m → b < y .blocks → {m₁ m₂ : Mem}
-    → m₁ ≡ storeCell m (runningRow Liveness y) (difference (cell m (runningRow Liveness y)) (cell m (definesRow b)))
-    → m₂ ≡ storeCell m₁ (runningRow Liveness y) (join (cell m₁ (runningRow Liveness y)) (cell m₁ (usesRow b)))
-    → m₂ ≡ storeCell m (runningRow Liveness y) (transferred Liveness m b (cell m (runningRow Liveness y)))
-unfolding transferred
-live-transfers y m b lt h e₁ e₂ =
-    let x : List ℕ = difference (cell m (runningRow Liveness y)) (cell m (definesRow b)) in
-    e₂ ∙ ap (λ (w : Mem). storeCell w (runningRow Liveness y) (join (cell w (runningRow Liveness y)) (cell w (usesRow b)))) e₁
-    ∙ set-set m (runningRow Liveness y) x _
-    ∙ ap (storeCell m (runningRow Liveness y))
-    (ap₂ join (cell-store-same m (runningRow Liveness y) x lt) (row-other Liveness y m x (usesRow b) (omega arith)))

@@ -124,8 +124,7 @@ fn transfer_live(s: &mut [u64], y: Layout, block: usize)
 {
     let defines = y.defines(block);
     let uses = y.uses(block);
-    memory::rows::subtract(s, y, y.live_state(), defines);
-    memory::rows::join(s, y, y.live_state(), uses);
+    memory::rows::replace(s, y, y.live_state(), defines, uses);
 }
 
 // The running row becomes the new set of a block.
