@@ -14,7 +14,7 @@ use std::{env, fs};
 const USAGE: &str = "usage: bench [--svg FILE]
        bench --once CLASS [ours | rust]
 
-Without --once: times all classes, prints a table, and writes a plot to FILE.
+Without --once: times all classes, prints a table in Markdown, and writes a plot to FILE.
 With it: makes one call of a class, for a counter of instructions.
 The classes are SHAPE-INSTRUCTIONS-SLOTS, as branchy-4096-8.";
 
@@ -80,14 +80,15 @@ fn once(name: &str, ours: bool) -> Result<(), String> {
 }
 
 fn all(svg: Option<&str>) -> Result<(), String> {
-    println!("{}", head());
+    println!("{}", row(&COLUMNS));
+    println!("{}", row(&["---"; COLUMNS.len()]));
     let mut measured = BTreeMap::new();
     for class in classes::table() {
         let (size, times) = measure(&class);
-        println!("{}", row(&class, &size, &times));
+        println!("{}", row(&cells(&class, &size, &times)));
         measured.insert(class.name, (size, times));
     }
-    println!("{NOTES}");
+    println!("\n{NOTES}");
     if let Some(path) = svg {
         let plot = plot::svg(&panels(&measured));
         fs::write(path, plot).map_err(|error| format!("{path}: {error}"))?;
@@ -109,48 +110,51 @@ of the lent buffers, which hold the answer of the call before. The Rust starts f
 own structures and allocates and frees what it needs; \"+ decode\" is the Rust from the
 bytes, read by the plain reader of the comparisons, which is not written for speed.";
 
-/// The head of the table: sizes, times of a call, times for each instruction and for each
-/// unit of work, and ratios.
-fn head() -> String {
-    format!(
-        "{:<19}{:>7}{:>7}{:>8}{:>11}{:>11}{:>11}{:>13}{:>9}{:>10}{:>10}{:>10}{:>11}{:>12}",
-        "class",
-        "blocks",
-        "edges",
-        "awaits",
-        "work",
-        "ours µs",
-        "Rust µs",
-        "+ decode µs",
-        "ns/instr",
-        "Rust",
-        "ns/unit",
-        "Rust",
-        "ours/Rust",
-        "/(+ decode)",
-    )
-}
+/// The columns of the table: sizes, times of a call in µs, times for each instruction and
+/// for each unit of work in ns, and ratios.
+const COLUMNS: [&str; 14] = [
+    "Class",
+    "Blocks",
+    "Edges",
+    "Awaits",
+    "Work",
+    "Ours, µs",
+    "Rust, µs",
+    "+ decode, µs",
+    "Ours, ns an instruction",
+    "Rust",
+    "Ours, ns a unit",
+    "Rust",
+    "Ours / Rust",
+    "/ (+ decode)",
+];
 
-fn row(class: &Class, size: &Size, times: &Times) -> String {
+fn cells(class: &Class, size: &Size, times: &Times) -> [String; COLUMNS.len()] {
     let count = size.count as f64;
     let work = size.work as f64;
-    format!(
-        "{:<19}{:>7}{:>7}{:>8}{:>11}{:>11.2}{:>11.2}{:>13.2}{:>9.2}{:>10.2}{:>10.3}{:>10.3}{:>11.2}{:>12.2}",
-        class.name,
-        size.blocks,
-        size.edges,
-        size.awaits,
-        size.work,
-        times.ours / 1e3,
-        times.rust / 1e3,
-        times.rust_from_bytes / 1e3,
-        times.ours / count,
-        times.rust / count,
-        times.ours / work,
-        times.rust / work,
-        times.ours / times.rust,
-        times.ours / times.rust_from_bytes,
-    )
+    [
+        class.name.clone(),
+        size.blocks.to_string(),
+        size.edges.to_string(),
+        size.awaits.to_string(),
+        size.work.to_string(),
+        format!("{:.2}", times.ours / 1e3),
+        format!("{:.2}", times.rust / 1e3),
+        format!("{:.2}", times.rust_from_bytes / 1e3),
+        format!("{:.2}", times.ours / count),
+        format!("{:.2}", times.rust / count),
+        format!("{:.3}", times.ours / work),
+        format!("{:.3}", times.rust / work),
+        format!("{:.2}", times.ours / times.rust),
+        format!("{:.2}", times.ours / times.rust_from_bytes),
+    ]
+}
+
+/// A row of a Markdown table.
+fn row<S: AsRef<str>>(cells: &[S]) -> String {
+    cells.iter().fold("|".to_string(), |row, cell| {
+        row + " " + cell.as_ref() + " |"
+    })
 }
 
 type Measured = BTreeMap<String, (Size, Times)>;

@@ -38,6 +38,27 @@ impl Display for Mismatch {
     }
 }
 
+/// Calls the port with buffers that are full of garbage, and gives all that it leaves.
+pub fn called(sheet: &[u8], budget: Budget, lengths: Lengths) -> Outcome {
+    let garbage = Block {
+        start: 1,
+        end: 2,
+        reachable: 3,
+        successor_count: 4,
+        successor_0: 5,
+        successor_1: 6,
+    };
+    let mut blocks = vec![garbage; lengths.blocks];
+    let mut sets = vec![u64::MAX; lengths.sets];
+    let mut scratch = vec![u64::MAX; lengths.scratch];
+    Outcome {
+        answer: verify(sheet, budget, &mut blocks, &mut sets, &mut scratch),
+        blocks,
+        sets,
+        scratch,
+    }
+}
+
 /// The memory for calls, one after the other.
 #[derive(Default)]
 pub struct Lent {

@@ -2,6 +2,7 @@
 
 use crate::lent::Mismatch;
 use crate::plan::Plan;
+use compare::hex::hex;
 use std::fmt::{self, Display, Formatter};
 
 /// The numbers that an answer can have: 0 and the refusals 1 to 15.
@@ -35,9 +36,6 @@ const SIZES: [(usize, &str); 5] = [
     (65_536, "< 64 KiB"),
     (usize::MAX, "larger"),
 ];
-
-/// The longest sheet that is shown whole.
-const SHOWN: usize = 2_000;
 
 /// How many calls gave what, and the first that gave something else than expected.
 #[derive(Debug, Clone, Default)]
@@ -125,16 +123,4 @@ impl Display for Failure {
         writeln!(f, "called with {:?}", self.plan)?;
         write!(f, "{}", self.mismatch)
     }
-}
-
-/// A sheet in hexadecimal; of a long one, its first bytes.
-pub fn hex(sheet: &[u8]) -> String {
-    let shown = &sheet[..sheet.len().min(SHOWN)];
-    let bytes: Vec<String> = shown.iter().map(|byte| format!("{byte:02X}")).collect();
-    let more = if shown.len() < sheet.len() {
-        format!(" .. ({} bytes)", sheet.len())
-    } else {
-        String::new()
-    };
-    bytes.join(" ") + &more
 }

@@ -2,8 +2,8 @@
 //! port and the Rust answer each of its lines so.
 
 use compare_flow::answers::{printed, texts};
-use compare_flow::expected::{Lengths, Outcome, expected};
-use compare_flow::flow_c::{Block, verify};
+use compare_flow::expected::{Lengths, expected};
+use compare_flow::lent::called;
 use kagari_oracle::cases::case_n;
 use kagari_oracle::{Budget, sheet};
 
@@ -71,23 +71,6 @@ fn call(line: &str) -> (&str, Budget, Lengths, Vec<u8>) {
             (name, budget, lengths, bytes(sheet))
         }
         _ => panic!("{line}"),
-    }
-}
-
-/// Calls the port with buffers that are full of garbage.
-fn called(sheet: &[u8], budget: Budget, lengths: Lengths) -> Outcome {
-    let garbage = Block {
-        end: 9,
-        ..Block::default()
-    };
-    let mut blocks = vec![garbage; lengths.blocks];
-    let mut sets = vec![u64::MAX; lengths.sets];
-    let mut scratch = vec![u64::MAX; lengths.scratch];
-    Outcome {
-        answer: verify(sheet, budget, &mut blocks, &mut sets, &mut scratch),
-        blocks,
-        sets,
-        scratch,
     }
 }
 

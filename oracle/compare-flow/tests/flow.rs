@@ -3,10 +3,11 @@
 
 use compare::random::Random;
 use compare::sheets;
-use compare_flow::expected::{Known, Lengths, MOST_BYTES, MOST_WORK, Outcome};
+use compare_flow::expected::{Known, Lengths, MOST_BYTES, MOST_WORK};
 use compare_flow::flow_c::{Answer, Block, verify};
 use compare_flow::generate::large::{TIGHT_WIDTHS, most_blocks};
 use compare_flow::generate::{every_small, family};
+use compare_flow::lent::called;
 use compare_flow::plan::{Plan, every_cut, plans};
 use compare_flow::report::Report;
 use compare_flow::{Comparison, run, run_family};
@@ -227,27 +228,6 @@ fn sheet_checks_second_half() {
 
 fn budget(work: u64, retained: u64) -> Budget {
     Budget { work, retained }
-}
-
-/// Calls the port with buffers that are full of garbage.
-fn called(sheet: &[u8], budget: Budget, lengths: Lengths) -> Outcome {
-    let garbage = Block {
-        start: 1,
-        end: 2,
-        reachable: 3,
-        successor_count: 4,
-        successor_0: 5,
-        successor_1: 6,
-    };
-    let mut blocks = vec![garbage; lengths.blocks];
-    let mut sets = vec![u64::MAX; lengths.sets];
-    let mut scratch = vec![u64::MAX; lengths.scratch];
-    Outcome {
-        answer: verify(sheet, budget, &mut blocks, &mut sets, &mut scratch),
-        blocks,
-        sets,
-        scratch,
-    }
 }
 
 /// Buffers that are long enough for all cases but n.

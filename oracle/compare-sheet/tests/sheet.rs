@@ -1,15 +1,13 @@
 //! The sheet check of the port against the plain reader, on all nine numbers of its
 //! answer.
 
+use compare::hex::hex;
 use compare::reader::read;
 use compare::sheets::FAMILIES;
 use compare_sheet::sheet_c::{SheetFacts, check};
 
 /// How often each number comes up at least.
 const TIMES: u64 = 1_000;
-
-/// The longest sheet that a failure shows whole.
-const SHOWN: usize = 400;
 
 /// What the check is to answer.
 fn expected(sheet: &[u8]) -> SheetFacts {
@@ -31,18 +29,6 @@ fn expected(sheet: &[u8]) -> SheetFacts {
             ..SheetFacts::default()
         },
     }
-}
-
-/// A sheet in hexadecimal; of a long one, its first bytes.
-fn hex(sheet: &[u8]) -> String {
-    let shown = &sheet[..sheet.len().min(SHOWN)];
-    let bytes: Vec<String> = shown.iter().map(|byte| format!("{byte:02X}")).collect();
-    let more = if shown.len() < sheet.len() {
-        format!(" .. ({} bytes)", sheet.len())
-    } else {
-        String::new()
-    };
-    bytes.join(" ") + &more
 }
 
 #[test]

@@ -3,6 +3,7 @@
 //! of `compare-sheet`.
 
 pub mod damage;
+pub mod hex;
 pub mod operands_c;
 pub mod random;
 pub mod reader;

@@ -113,15 +113,20 @@ fn slot(random: &mut Random, slots: u32) -> u32 {
 fn slot_type(random: &mut Random) -> SlotType {
     SlotType {
         physical: random.number(0..=12) as u8,
-        ty: match random.number(0..=9) {
-            0..=4 => Type::Absent,
-            5..=6 => nested(random, 0),
-            7 => Type::Tuple(vec![]),
-            8 => nested(random, 2),
-            _ => {
-                let tuples = random.number(1..=16);
-                nested(random, tuples)
-            }
-        },
+        ty: any_type(random),
+    }
+}
+
+/// A type of any form.
+pub fn any_type(random: &mut Random) -> Type {
+    match random.number(0..=9) {
+        0..=4 => Type::Absent,
+        5..=6 => nested(random, 0),
+        7 => Type::Tuple(vec![]),
+        8 => nested(random, 2),
+        _ => {
+            let tuples = random.number(1..=16);
+            nested(random, tuples)
+        }
     }
 }

@@ -2,7 +2,7 @@
 //! filled, so that many are accepted.
 
 use compare::random::Random;
-use compare::scripts::nested;
+use compare::scripts::any_type;
 use kagari_oracle::cases::{jump, return_absent};
 use kagari_oracle::{ABSENT, Field, Instruction, Script, SlotType, Type, pattern};
 
@@ -310,16 +310,7 @@ fn any_slot_type(random: &mut Random) -> SlotType {
     } else {
         random.number(0..=12) as u8
     };
-    let ty = match random.number(0..=9) {
-        0..=4 => Type::Absent,
-        5..=6 => nested(random, 0),
-        7 => Type::Tuple(vec![]),
-        8 => nested(random, 2),
-        _ => {
-            let tuples = random.number(1..=16);
-            nested(random, tuples)
-        }
-    };
+    let ty = any_type(random);
     SlotType { physical, ty }
 }
 
