@@ -1,4 +1,4 @@
-//! The files that a host reads: the sheets, the page on refusals, and the C header.
+//! The files that a host reads: the sheets, the page on refusals, the C header, and what the pages name.
 
 mod header;
 #[allow(dead_code)]
@@ -7,6 +7,7 @@ mod reader;
 mod refusals;
 mod runs;
 mod sheets;
+mod statements;
 #[path = "../../examples/text/mod.rs"]
 mod text;
 
