@@ -8,7 +8,7 @@ use native.Mathlib.Omega.{arith}
 use lib.ListN.{length, getD, replicate, length-append, length-replicate, List·getD-append, getD-replicate}
 use lib.Seq.{ext-getD, getD-drop, getD-append-add}
 use Rattle.dataflow.specs.Lists.{range, tabulate}
-use Rattle.dataflow.proofs.Lists.{length-tabulate, getD-tabulate}
+use Rattle.dataflow.proofs.Lists.{length-tabulate, getD-tabulate, range-at, range-length}
 use Rattle.memory.specs.Cells.{Mem}
 use Rattle.outcome.specs.Buffers.{joined, padded}
 use Rattle.outcome.proofs.JoinedLaws.{joined-at, joined-range}
@@ -25,8 +25,8 @@ module _ (m : Mem) (f : ℕ → List ℕ) (six : (c : ℕ) → length (f c) ≡ 
   -- word k of the records
   all-at : (k : ℕ) → k / 6 < blocks → getD all k 0 ≡ getD (f (k / 6)) (k % 6) 0
   all-at k lt =
-      let z = joined-at f 6 six (range 0 blocks) [] (k / 6) 0 (omega (arith, length-tabulate 0 blocks (λ i. i))) in
-      let e : getD (range 0 blocks) (k / 6) 0 ≡ k / 6 = getD-tabulate 0 blocks (k / 6) (λ i. i) 0 lt ∙ zero-add (k / 6) in
+      let z = joined-at f 6 six (range 0 blocks) [] (k / 6) 0 (omega (arith, range-length 0 blocks)) in
+      let e : getD (range 0 blocks) (k / 6) 0 ≡ k / 6 = range-at blocks (k / 6) lt in
       let split : k ≡ k / 6 * 6 + k % 6 = omega arith in
       ap (λ (l : List ℕ). getD l k 0) (sym (append-nil all))
       ∙ ap (λ (j : ℕ). getD (all ++ []) j 0) split

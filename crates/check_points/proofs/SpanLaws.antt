@@ -14,7 +14,7 @@ use Rattle.dataflow.specs.Code as flow
 use Rattle.dataflow.specs.Code.{leaders, body, blockGraph, outside}
 use Rattle.dataflow.specs.Results.{blockCount, reachable, liveExit}
 use Rattle.dataflow.specs.Verdict.{awaitAt}
-use Rattle.dataflow.proofs.Lists.{keep-both}
+use Rattle.dataflow.proofs.Lists.{map-at, keep-both}
 use Rattle.dataflow.proofs.Leaders.{leaders-below, block-range, blocks-cover}
 use Rattle.operands.specs.Kinds.{isAwait}
 use Rattle.memory.specs.Cells.{Mem, word}
@@ -26,7 +26,6 @@ use Rattle.sheet.specs.Checks.{awaitsIn}
 use Rattle.instructions.specs.Sound.{Sound}
 use Rattle.script.specs.Script.{flowInstruction, flowCode, parameterIn}
 use Rattle.script.proofs.ScriptLaws.{code-length}
-use Rattle.fixed_points.proofs.Bits.{map-at}
 use Rattle.verdict.specs.Points.{Point, awaitPoints, blockPoints, points}
 use Rattle.check_points.specs.CheckPoints.{codeOf, Solved}
 

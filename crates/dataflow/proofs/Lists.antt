@@ -1,13 +1,13 @@
 -- Laws of lists.
 use mathlib.Core.Path.{_≡_, refl, sym, _∙_, ap, ap₂, subst}
 use mathlib.Core.Bool.{Bool, true, false, true≢false, false≢true, or-true}
-use mathlib.Core.List.{List, [], _∷_, _++_, reverseAux, List·Memᴰ, List·Memᴰ·head, List·Memᴰ·tail, List·Memᴰ·not-nil, List·Memᴰ·cases-cons}
+use mathlib.Core.List.{List, [], _∷_, _++_, map, reverseAux, List·Memᴰ, List·Memᴰ·head, List·Memᴰ·tail, List·Memᴰ·not-nil, List·Memᴰ·cases-cons}
 use mathlib.Core.List.{List·Memᴰ·append-cases, List·Memᴰ·eq-of-singleton}
 use mathlib.Core.Logic.{_⊎_, inl, inr}
 use Prim.Native.Nat.{ℕ, zero, suc, _+_, _≤_, _<_}
 use native.Mathlib.Omega.{arith}
 use native.Mathlib.Nat.{add-zero, zero-add}
-use lib.ListN.{length, getD, replicate, length-append}
+use lib.ListN.{length, getD, set, replicate, length-append}
 use lib.Dec.{eqb}
 use Rattle.dataflow.specs.Lists.{pick, tabulate, range, sum, every, some, keep, elem, NoDup}
 use Rattle.dataflow.proofs.Bools.{and-left, and-right, and-no, or-yes, eqb-is, eqb-self}
@@ -59,8 +59,33 @@ mem-range k (suc n) zero lt = List·Memᴰ·head (add-zero k)
 mem-range k (suc n) (suc i) lt =
     List·Memᴰ·tail (subst (λ (j : ℕ). List·Memᴰ j (range (suc k) n)) (omega arith) (mem-range (suc k) n i (omega arith)))
 
+-- the number at place i, and how many there are
+pub range-at : (n i : ℕ) → i < n → getD (range 0 n) i 0 ≡ i
+range-at n i lt = getD-tabulate 0 n i (λ j. j) 0 lt ∙ zero-add i
+
+pub range-length : (k n : ℕ) → length (range k n) ≡ n
+range-length k n = length-tabulate k n (λ j. j)
+
 pub range-append : (k m n : ℕ) → range k (m + n) ≡ range k m ++ range (k + m) n
 range-append k m n = tabulate-append k m n (λ i. i)
+
+-- ── Lists seen through a function ──
+
+module _ {A B : Type 0} (f : A → B) where
+  pub map-at : (l : List A) (i : ℕ) (a : A) (b : B) → i < length l → getD (map f l) i b ≡ f (getD l i a)
+  map-at [] i a b lt = absurd (omega arith)
+  map-at (x ∷ l) zero a b lt = refl
+  map-at (x ∷ l) (suc i) a b lt = map-at l i a b (omega arith)
+
+  pub map-set : (l : List A) (i : ℕ) (a : A) → map f (set l i a) ≡ set (map f l) i (f a)
+  map-set [] i a = refl
+  map-set (x ∷ l) zero a = refl
+  map-set (x ∷ l) (suc i) a = ap (λ (z : List B). f x ∷ z) (map-set l i a)
+
+-- a list without a place is empty
+pub no-place : {A : Type 0} (l : List A) → length l ≤ 0 → l ≡ []
+no-place [] h = refl
+no-place (x ∷ l) h = absurd (omega arith)
 
 -- ── What is kept of a list ──
 

@@ -12,7 +12,7 @@ use lib.Seq.{getD-set-same, getD-set-other}
 use Rattle.dataflow.specs.Paths.{Path, stop, step}
 use Rattle.dataflow.specs.Lists.{NoDup}
 use Rattle.dataflow.specs.Search.{Sweep, unvisited, add, addAll, onNext, takeTop, sweep, sweepFrom}
-use Rattle.dataflow.proofs.Lists.{getD-same}
+use Rattle.dataflow.proofs.Lists.{getD-same, no-place}
 use Rattle.dataflow.proofs.Paths.{path-snoc}
 use Rattle.dataflow.proofs.Search.{Visited, From}
 
@@ -214,11 +214,7 @@ module _ (next : ℕ → List ℕ) (n root : ℕ) (root-below : root < n) (below
 
   sweep-ends : (m a : ℕ) (r : Sweep) → left r ≤ m → Sweeping a [] r → ((b : ℕ) × Sweeping b [] (sweep next m r)) × (sweep next m r .pending ≡ [])
   unfolding sweep
-  sweep-ends zero a r le k = ((a, k), none (r .pending) (omega arith))
-    where
-      none : (q : List ℕ) → length q ≤ 0 → q ≡ []
-      none [] h = refl
-      none (b ∷ q) h = absurd (omega arith)
+  sweep-ends zero a r le k = ((a, k), no-place (r .pending) (omega arith))
   sweep-ends (suc m) a r le k = go (r .pending) refl
       (λ b q e. let z = take-keeps a b q r e k in sweep-ends m b (takeTop next b q r) (omega (arith, z .1)) (z .0))
     where

@@ -6,11 +6,7 @@ use mathlib.Core.List.{List, [], _∷_, map, List·Memᴰ, List·Memᴰ·head, L
 use Prim.Native.Nat.{ℕ, zero, suc}
 use lib.ListN.{set}
 use Rattle.dataflow.specs.Worklist.{Ring, mark, State, offer, enqueue, popped, Solver, setOf, settle, visit, onFirst, run}
-
-map-set : {W X : Type 0} (h : W → X) (x : List W) (b : ℕ) (v : W) → map h (set x b v) ≡ set (map h x) b (h v)
-map-set h [] b v = refl
-map-set h (a ∷ x) zero v = refl
-map-set {X = X} h (a ∷ x) (suc b) v = ap (λ (t : List X). h a ∷ t) (map-set h x b v)
+use Rattle.dataflow.proofs.Lists.{map-set}
 
 -- R holds of every block of the list
 abbrev pub Each : (ℕ → Type 0) → List ℕ → Type 0

@@ -10,6 +10,7 @@ use native.Mathlib.Nat.{mul-le-mul-right, suc-mul, zero-add, suc-add}
 use lib.ListN.{length, set, length-set}
 use lib.Seq.{getD-set-same, getD-set-other}
 use Rattle.dataflow.specs.Worklist.{Ring, mark, State, enqueue, popped, SoundRing, Solver, setOf, settle, visit, onFirst, run}
+use Rattle.dataflow.proofs.Lists.{no-place}
 use Rattle.dataflow.proofs.Ring.{Below, pop-sound, enqueue-sound, enqueue-mark, enqueue-hit, enqueue-length}
 
 -- ── A run in steps ──
@@ -210,11 +211,7 @@ module _ {W : Type 0} (a : Solver W) (n : ℕ) (Holds : List W → Type 0) where
 
       pub run-ends : (k : ℕ) (s : State W) → Invariant s → visitsLeft s ≤ k → run a k s .ring .queue ≡ []
       unfolding run
-      run-ends zero s h le = none-left (s .ring .queue) (omega arith)
-        where
-          none-left : (q : List ℕ) → length q ≤ 0 → q ≡ []
-          none-left [] l = refl
-          none-left (b ∷ q) l = absurd (omega arith)
+      run-ends zero s h le = no-place (s .ring .queue) (omega arith)
       run-ends (suc k) s h le = go (s .ring .queue) refl
           (λ b q e. run-ends k (visit a b q s) (visit-inv b q s e h) (omega (arith, visit-left b q s e h)))
         where

@@ -3,14 +3,14 @@ use mathlib.Core.Path.{_≡_, sym, ap, _∙_}
 use mathlib.Core.Bool.{Bool, false}
 use mathlib.Core.List.{List, _∷_, _++_, append-assoc}
 use Prim.Native.Nat.{ℕ, _+_, _*_, _<_}
-use native.Mathlib.Nat.{add-zero, zero-add}
+use native.Mathlib.Nat.{add-zero}
 use native.Mathlib.Omega.{arith}
 use lib.ListN.{length, getD, take, drop, length-append}
 use lib.Seq.{take-at, drop-at, drop-drop, getD-drop}
 use Rattle.dataflow.specs.Lists.{range}
 use Rattle.dataflow.specs.Code.{Instruction}
 use Rattle.dataflow.specs.Results.{initExit, liveEntry}
-use Rattle.dataflow.proofs.Lists.{length-tabulate, getD-tabulate}
+use Rattle.dataflow.proofs.Lists.{range-at, range-length}
 use Rattle.answer.specs.Words.{wordsOf}
 use Rattle.answer.proofs.WordLaws.{words-of}
 use Rattle.verdict.specs.Points.{Point}
@@ -42,8 +42,8 @@ module _ (code : List Instruction) (parameter : ℕ → Bool) (w blocks : ℕ) (
   rows-at : (c : ℕ) → c < blocks → (r : List ℕ)
       × (drop (c * (2 * w)) v ≡ wordsOf w (initExit code parameter w c) ++ (wordsOf w (liveEntry code parameter w c) ++ r))
   rows-at c lt =
-      let z = joined-at (blockSets code parameter w) (2 * w) sets-long (range 0 blocks) (awaits ++ rest) c 0 (omega (arith, length-tabulate 0 blocks (λ i. i))) in
-      let e : getD (range 0 blocks) c 0 ≡ c = getD-tabulate 0 blocks c (λ i. i) 0 lt ∙ zero-add c in (
+      let z = joined-at (blockSets code parameter w) (2 * w) sets-long (range 0 blocks) (awaits ++ rest) c 0 (omega (arith, range-length 0 blocks)) in
+      let e : getD (range 0 blocks) c 0 ≡ c = range-at blocks c lt in (
         z .0,
         ap (drop (c * (2 * w))) apart ∙ z .1 ∙ ap (λ (k : ℕ). blockSets code parameter w k ++ z .0) e
             ∙ append-assoc (wordsOf w (initExit code parameter w c)) (wordsOf w (liveEntry code parameter w c)) (z .0),
@@ -68,7 +68,7 @@ module _ (code : List Instruction) (parameter : ℕ → Bool) (w blocks : ℕ) (
       let z = joined-at (awaitWords code parameter w) (1 + w) await-long pts rest k (record { instruction = 0; live = λ s. false }) lt in
       let past : drop (blocks * (2 * w)) v ≡ awaits ++ rest =
       ap (drop (blocks * (2 * w))) apart
-      ∙ ap (λ (j : ℕ). drop (j * (2 * w)) (joined (blockSets code parameter w) (range 0 blocks) ++ (awaits ++ rest))) (sym (length-tabulate 0 blocks (λ i. i)))
+      ∙ ap (λ (j : ℕ). drop (j * (2 * w)) (joined (blockSets code parameter w) (range 0 blocks) ++ (awaits ++ rest))) (sym (range-length 0 blocks))
       ∙ joined-past (blockSets code parameter w) (2 * w) sets-long (range 0 blocks) (awaits ++ rest) in
       (z .0, sym (drop-drop (k * (1 + w)) (blocks * (2 * w)) v) ∙ ap (drop (k * (1 + w))) past ∙ z .1)
 

@@ -3,7 +3,6 @@ use mathlib.Core.Path.{_≡_, refl, ap, _∙_}
 use mathlib.Core.Bool.{Bool}
 use mathlib.Core.List.{List, [], _∷_}
 use Prim.Native.Nat.{ℕ, zero, suc, _+_, _*_, _<_}
-use native.Mathlib.Nat.{zero-add}
 use native.Mathlib.Omega.{arith}
 use lib.ListN.{length, getD}
 use Rattle.bitset.specs.Sets.{Words, member}
@@ -11,7 +10,7 @@ use Rattle.dataflow.specs.Lists.{range}
 use Rattle.dataflow.specs.Analyses.{liveness}
 use Rattle.dataflow.specs.Code.{Instruction}
 use Rattle.dataflow.specs.Results.{blockCount, initExit, liveEntry, flowGraph, seed}
-use Rattle.dataflow.proofs.Lists.{length-tabulate, getD-tabulate}
+use Rattle.dataflow.proofs.Lists.{range-at, range-length}
 use Rattle.dataflow.proofs.FlowGraph.{live-entry-row}
 use Rattle.memory.specs.Cells.{Mem, cell}
 use Rattle.memory.specs.Names.{initializedRow, liveRow}
@@ -56,18 +55,12 @@ module _ (code : List Instruction) (parameter : ℕ → Bool) (w : ℕ) where
   abbrev pub allRows : Mem
   allRows = rowCells (range 0 (blockCount code))
 
-  many : length (range 0 (blockCount code)) ≡ blockCount code
-  many = length-tabulate 0 (blockCount code) (λ i. i)
-
-  nth : (c : ℕ) → c < blockCount code → getD (range 0 (blockCount code)) c 0 ≡ c
-  nth c lt = getD-tabulate 0 (blockCount code) c (λ i. i) 0 lt ∙ zero-add c
-
   pub initialized-row : (c : ℕ) → c < blockCount code → cell allRows (initializedRow c) ≡ wordsOf w (initExit code parameter w c)
   initialized-row c lt =
-      initialized-cell (range 0 (blockCount code)) c (omega (arith, many)) ∙ ap (λ (d : ℕ). wordsOf w (initExit code parameter w d)) (nth c lt)
+      initialized-cell (range 0 (blockCount code)) c (omega (arith, range-length 0 (blockCount code))) ∙ ap (λ (d : ℕ). wordsOf w (initExit code parameter w d)) (range-at (blockCount code) c lt)
 
   pub live-row : (c : ℕ) → c < blockCount code → cell allRows (liveRow c) ≡ wordsOf w (liveEntry code parameter w c)
-  live-row c lt = live-cell (range 0 (blockCount code)) c (omega (arith, many)) ∙ ap (λ (d : ℕ). wordsOf w (liveEntry code parameter w d)) (nth c lt)
+  live-row c lt = live-cell (range 0 (blockCount code)) c (omega (arith, range-length 0 (blockCount code))) ∙ ap (λ (d : ℕ). wordsOf w (liveEntry code parameter w d)) (range-at (blockCount code) c lt)
 
   -- they hold both sets of every block
   row-sets : Sets code parameter rowLayout allRows
@@ -79,4 +72,4 @@ module _ (code : List Instruction) (parameter : ℕ → Bool) (w : ℕ) where
 
   -- so they are the sets by paths
   pub rows-by-paths : (h : Scripted code parameter w) → PathSets code parameter (h .slots) rowLayout allRows
-  rows-by-paths h = path-sets code parameter rowLayout h refl allRows (λ k lt. cells-words (range 0 (blockCount code)) k (omega (arith, many))) row-sets
+  rows-by-paths h = path-sets code parameter rowLayout h refl allRows (λ k lt. cells-words (range 0 (blockCount code)) k (omega (arith, range-length 0 (blockCount code)))) row-sets

@@ -21,6 +21,7 @@ use Rattle.format.specs.declared.refusal.Refusal.the-variants.{NoRoom, StateLim
 use Rattle.rooms.specs.declared.Staged.{Staged}
 use Rattle.rooms.specs.declared.Staged.the-variants as staging
 use Rattle.rooms.specs.Rooms.{roomsOf, ifMet}
+use Rattle.rooms.proofs.RoomLaws.{state-due, room-due, room-there}
 use Rattle.sheet.specs.declared.script.Script.{Script}
 use Rattle.sheet.specs.Decode.{refusal, idIn, idOf, idAfter}
 use Rattle.sheet.specs.Checks.{scriptOf, checkedOf, checkedBy}
@@ -90,8 +91,7 @@ module _ (s : List ℕ) (l : Limits) (n : Lengths) (b : FlowBudget) where
   after-counts left g = after-begins (g .begins) ∙ ap (λ (c : Charged). afterGraph s x l (ifOk (ifMet c rooms) (stage l later))) (g .paid)
 
   fits-ok : (left : FlowBudget) → Fits s l n b left → rooms left ≡ staging.Ok (layout s l n b) left
-  unfolding roomsOf
-  fits-ok left g = pick-no _ _ (le-ltb (l .state) (stateBytes (layout s l n b .blocks) (layout s l n b .words)) (g .state)) ∙ pick-no _ _ (g .room)
+  fits-ok left g = sym (room-there l (layout s l n b) (n .scratch) (record { sets = n .sets; records = n .records }) left (g .state) (g .room))
 
   after-fits : (left : FlowBudget) → Fits s l n b left → outcomeOf s l n b ≡ afterGraph s x l (stage l later (layout s l n b) left)
   after-fits left g = after-counts left (g .counts) ∙ ap (λ (c : Staged). afterGraph s x l (ifOk c (stage l later))) (fits-ok left g)
@@ -114,18 +114,18 @@ module _ (s : List ℕ) (l : Limits) (n : Lengths) (b : FlowBudget) where
 
   -- what is due is given
   pub due-given : (o : Outcome) → Due s l n b o → outcomeOf s l n b ≡ o
-  unfolding outcomeOf checkedOf roomsOf
+  unfolding outcomeOf checkedOf
   due-given o (bad-sheet r e) = ap (λ (f : Option Refusal). afterChecks s l n b (checkedBy f (idOf s) x)) e
   due-given o (no-room-early e lt) = after-passed e ∙ pick-yes _ _ (lt-ltb (n .scratch) (4 * x .count) lt) ∙ ap (λ (i : ℕ). refused NoRoom i b) (passed-id s e)
   due-given o (no-room left g le e) =
       after-counts left g
       ∙ ap (λ (c : Staged). afterGraph s x l (ifOk c (stage l later)))
-      (pick-no _ _ (le-ltb (l .state) (stateBytes (layout s l n b .blocks) (layout s l n b .words)) le) ∙ pick-yes _ _ e)
+      (sym (room-due l (layout s l n b) (n .scratch) (record { sets = n .sets; records = n .records }) left le e))
       ∙ ap (λ (i : ℕ). refused NoRoom i left) (passed-id s (g .begins .passed))
   due-given o (state-limit left g lt) =
       after-counts left g
       ∙ ap (λ (c : Staged). afterGraph s x l (ifOk c (stage l later)))
-      (pick-yes _ _ (lt-ltb (l .state) (stateBytes (layout s l n b .blocks) (layout s l n b .words)) lt))
+      (sym (state-due l (layout s l n b) (n .scratch) (record { sets = n .sets; records = n .records }) left lt))
       ∙ ap (λ (i : ℕ). refused StateLimit i left) (passed-id s (g .begins .passed))
   due-given o (work-counting over g e) =
       after-begins g ∙ ap (λ (c : Charged). afterGraph s x l (ifOk (ifMet c rooms) (stage l later))) e

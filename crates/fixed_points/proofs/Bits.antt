@@ -3,7 +3,7 @@ use mathlib.Core.Path.{_≡_, refl, sym, ap, ap₂, _∙_}
 use mathlib.Core.Bool.{Bool, true, false, not, _&&_, _||_, true≢false, and-assoc, or-assoc, and-comm, or-comm, and-true, or-false}
 use mathlib.Core.List.{List, [], _∷_, map, List·Memᴰ, List·Memᴰ·not-nil, List·Memᴰ·cases-cons}
 use mathlib.Core.Logic.{_⊎_, inl, inr}
-use Prim.Native.Nat.{ℕ, zero, suc, _*_, _/_, _<_}
+use Prim.Native.Nat.{ℕ, _*_, _/_, _<_}
 use native.Mathlib.Omega.{arith}
 use native.Mathlib.Decide.{ℕ-discrete}
 use native.Mathlib.Nat.{zero-add}
@@ -21,7 +21,7 @@ use Rattle.dataflow.specs.FlowGraph.{framework}
 use Rattle.dataflow.specs.Results.{reachable, flowGraph}
 use Rattle.dataflow.proofs.Bits.{same-bits, bits-same}
 use Rattle.dataflow.proofs.Blocks.{init-gen-kill, init-by-defines, uses-exposed, defines-written}
-use Rattle.dataflow.proofs.Lists.{getD-tabulate, tabulate-among}
+use Rattle.dataflow.proofs.Lists.{getD-tabulate, tabulate-among, map-at}
 use Rattle.dataflow.proofs.Simulation.{Agrees, Each}
 use Rattle.memory.specs.Cells.{Mem, cell, word}
 use Rattle.memory.specs.Names.{flag, reachableCell, usesRow, definesRow, parametersRow}
@@ -70,12 +70,6 @@ same-is {w} {xs} {ys} hx hy = go (same xs ys) refl (sameBits (bitsOf (64 * w) xs
         equal : same xs ys ≡ true
         equal = same-members hx hy .1 (λ i lt. sym (bits-at (64 * w) xs i true lt)
             ∙ ap (λ (l : List Bool). getD l i true) (same-bits (bitsOf (64 * w) xs) (bitsOf (64 * w) ys) f) ∙ bits-at (64 * w) ys i true lt)
-
--- a place of a list, seen through h
-pub map-at : {A B : Type 0} (h : A → B) (l : List A) (i : ℕ) (a : A) (b : B) → i < length l → getD (map h l) i b ≡ h (getD l i a)
-map-at h [] i a b lt = absurd (omega arith)
-map-at h (x ∷ l) zero a b lt = refl
-map-at h (x ∷ l) (suc i) a b lt = map-at h l i a b (omega arith)
 
 -- each of a list of blocks is one
 pub below-each : (n : ℕ) (l : List ℕ) → AllBelow n l → Each (λ b. b < n) l

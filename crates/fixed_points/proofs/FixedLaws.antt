@@ -2,7 +2,7 @@
 use mathlib.Core.Path.{_≡_, sym, ap, _∙_}
 use mathlib.Core.Bool.{Bool}
 use mathlib.Core.List.{List, reverse}
-use Prim.Native.Nat.{ℕ, _+_, _*_, _^_, _≤_, _<_}
+use Prim.Native.Nat.{ℕ, _^_, _<_}
 use native.Mathlib.Omega.{arith}
 use lib.ListN.{length, getD, take}
 use Rattle.bitset.specs.Sets.{member}
@@ -29,8 +29,8 @@ use Rattle.order.specs.declared.Ordered.the-variants as ordering
 use Rattle.order.specs.Postorder.{searchedFrom, searchCharges, chargedIn, Searched}
 use Rattle.solver.specs.declared.direction.Direction.{Direction}
 use Rattle.solver.specs.declared.direction.Direction.the-variants.{Initialization, Liveness}
-use Rattle.solver.specs.Transfer.{runningRow}
 use Rattle.propagate.specs.Rounds.{Seedable, Propagated}
+use Rattle.propagate.proofs.Fixed.{running-at}
 use Rattle.edges.specs.Flow.{Flows}
 use Rattle.fixed_points.specs.FixedPoints.{roundsCharges, Fixed}
 use Rattle.fixed_points.specs.Stages.{Flowing, InOrder, Ready, RoundsDone}
@@ -48,11 +48,6 @@ still-searched {y = y} p = record {
   edges = λ k lo hi. p .others k (λ e. omega arith) (λ e. omega arith) (λ e. omega arith) (λ e. omega arith);
   parameters = p .others (parametersRow (y .blocks)) (λ e. omega arith) (λ e. omega arith) (λ e. omega arith) (λ e. omega arith);
 }
-
--- where a round computes
-running-at : (d : Direction) (y : Layout) → (18 + 4 * y .blocks ≤ runningRow d y) × (runningRow d y < 20 + 4 * y .blocks)
-running-at Initialization y = (omega arith, omega arith)
-running-at Liveness y = (omega arith, omega arith)
 
 -- so does a round
 pub still-round : {d : Direction} {y : Layout} {l : Limits} {b : FlowBudget} {n : ℕ} {m m′ t t′ : Mem} {r : Charged} {left : FlowBudget}

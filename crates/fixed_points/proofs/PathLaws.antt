@@ -15,6 +15,7 @@ use Rattle.dataflow.specs.Code.{Instruction, program, body, lastOr, blockGraph}
 use Rattle.dataflow.specs.Paths.{Reached}
 use Rattle.dataflow.specs.Results.{blockCount, reachable, liveEntry, flowGraph, seed}
 use Rattle.dataflow.proofs.Analyses.{filled-plain}
+use Rattle.dataflow.proofs.Bools.{not-true}
 use Rattle.dataflow.proofs.CodeBlocks.{basic-blocks, reached-iff}
 use Rattle.dataflow.proofs.FlowGraph.{live-entry-row}
 use Rattle.dataflow.proofs.Results.{reachable-iff, init-exit-at, live-entry-at, live-below, filled-below, unreached-init, unreached-live}
@@ -62,11 +63,9 @@ module _ (code : List Instruction) (parameter : ℕ → Bool) (y : Layout) (h : 
       (plain (p .0 ++ (lastOf code parameter c ∷ [])) s ∙ f (p .0) (p .1))
 
   unreached : (c : ℕ) → c < y .blocks → (ReachedBlock code parameter c → ⊥) → reachable code c ≡ false
-  unreached c lt never = go (reachable code c) refl
-    where
-      go : (b : Bool) → reachable code c ≡ b → reachable code c ≡ false
-      go false e = e
-      go true e = absurd (never (block-reached c lt .1 (reachable-iff code parameter (h .slots) (y .words) (h .checked) (h .wide) c .0 e)))
+  unreached c lt never =
+      not-true (reachable code c)
+      (λ e. never (block-reached c lt .1 (reachable-iff code parameter (h .slots) (y .words) (h .checked) (h .wide) c .0 e)))
 
   module _ (t : Mem) (long : (k : ℕ) → k < 2 * y .blocks → Words (y .words) (cell t k)) (g : Sets code parameter y t) where
     past : (k s : ℕ) → k < 2 * y .blocks → 64 * y .words ≤ s → member (cell t k) s ≡ false

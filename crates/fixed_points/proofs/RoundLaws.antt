@@ -18,7 +18,7 @@ use Rattle.dataflow.specs.Worklist as worklist
 use Rattle.dataflow.specs.Framework.{Framework, bitAt, solverOf, begin, enough, solution}
 use Rattle.dataflow.specs.Results.{blockCount, predecessors, swept, searched, seed, result}
 use Rattle.dataflow.specs.Charges.{visitCharges, traceCharges, propagateCharges}
-use Rattle.dataflow.proofs.Lists.{tabulate-same}
+use Rattle.dataflow.proofs.Lists.{tabulate-same, map-at}
 use Rattle.dataflow.proofs.Results.{seed-sound, result-ends}
 use Rattle.dataflow.proofs.Simulation.{Each, seen, run-seen}
 use Rattle.dataflow.proofs.Worklist.{run-more, run-fuel}
@@ -47,7 +47,7 @@ use Rattle.edges.specs.Flow.{Flows, Fresh}
 use Rattle.fixed_points.specs.FixedPoints.{Scripted}
 use Rattle.fixed_points.specs.Stages.{InOrder}
 use Rattle.fixed_points.proofs.CodeGraph.{directionOf, neighbors-are, reachable-are}
-use Rattle.fixed_points.proofs.Bits.{bitsOf, bits-at, bits-are, map-at, Table, RowsOfWords, frameOf, agrees}
+use Rattle.fixed_points.proofs.Bits.{bitsOf, bits-at, bits-are, Table, RowsOfWords, frameOf, agrees}
 
 -- ---- rows as they begin
 

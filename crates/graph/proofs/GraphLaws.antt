@@ -40,6 +40,7 @@ use Rattle.blocks.proofs.BlockLaws.{ready-kept}
 use Rattle.rooms.specs.declared.Staged.{Staged}
 use Rattle.rooms.specs.declared.Staged.the-variants.{Ok, Refused}
 use Rattle.rooms.specs.Rooms.{ifMet, Indexes, Measured}
+use Rattle.rooms.proofs.RoomLaws.{over-refused}
 use Rattle.graph.specs.Graph.{ifOk, stage, graphOf, Holding, Graphed, Joined, Reaches, Built}
 use Rattle.graph.proofs.HoldingLaws.{some-block, blocks-hold, joined-hold, all-held}
 
@@ -92,7 +93,7 @@ module _ (y : Layout) (l : Limits) (b : FlowBudget) (m m′ : Mem) (c : Charged)
   reaches-over z r eo er = record {
     charged-as = c;
     reached = g;
-    answer = er ∙ ap (λ (d : Charged). Refused WorkLimit (budgetOf d)) eo ∙ ap (λ (d : Charged). ifMet d (Ok y)) (sym eo);
+    answer = over-refused c z (Ok y) r eo er;
   }
 
   -- all were met

@@ -9,7 +9,7 @@ use lib.ListN.{length, take, drop, length-append}
 use lib.Seq.{getD-take}
 use Rattle.bitset.specs.Sets.{member, digit}
 use Rattle.dataflow.specs.Lists.{pick, range, keep}
-use Rattle.dataflow.proofs.Lists.{length-tabulate, range-append, keep-append, keep-few}
+use Rattle.dataflow.proofs.Lists.{range-length, range-append, keep-append, keep-few}
 use Rattle.listing.specs.Lines.{spaced, slotsAt}
 use Rattle.listing.specs.Text.{Puts}
 use Rattle.listing.proofs.TextLaws.{puts-none, puts-then}
@@ -90,7 +90,7 @@ count-all v w base slot count h k e = e ∙ ap length (slots-all v w base slot h
 -- ---- how long it can be
 pub slots-few : (v : List ℕ) (w base : ℕ) → length (slotsAt v w base) ≤ 64 * w
 slots-few v w base =
-    omega (arith, keep-few (member (take w (drop base v))) (range 0 (64 * w)), length-tabulate 0 (64 * w) (λ (i : ℕ). i))
+    omega (arith, keep-few (member (take w (drop base v))) (range 0 (64 * w)), range-length 0 (64 * w))
 
 length-spaced : (l : List ℕ) → length (spaced l) ≤ 21 * length l
 length-spaced [] = omega arith

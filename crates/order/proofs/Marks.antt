@@ -39,11 +39,6 @@ marks-none zero = refl
 marks-none (suc n) = omega (arith, marks-none n)
 
 module _ {A B : Type 0} (f : A → B) where
-  pub map-set : (l : List A) (i : ℕ) (a : A) → map f (set l i a) ≡ set (map f l) i (f a)
-  map-set [] i a = refl
-  map-set (x ∷ l) zero a = refl
-  map-set (x ∷ l) (suc i) a = ap (λ (z : List B). f x ∷ z) (map-set l i a)
-
   pub map-replicate : (n : ℕ) (a : A) → map f (replicate n a) ≡ replicate n (f a)
   map-replicate zero a = refl
   map-replicate (suc n) a = ap (λ (z : List B). f a ∷ z) (map-replicate n a)

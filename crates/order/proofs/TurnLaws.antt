@@ -10,6 +10,7 @@ use native.Mathlib.Omega.{arith}
 use lib.ListN.{length, getD, set, take, drop, replicate, length-replicate, getD-replicate, drop-of-length-le, List·getD-map, length-set}
 use lib.Seq.{take-suc-set, drop-cons, getD-set-same, getD-set-other}
 use Rattle.dataflow.specs.Search.{Frame, Search, look, advance, onTop}
+use Rattle.dataflow.proofs.Lists.{map-set}
 use Rattle.memory.specs.Cells.{Mem, cell, word, store, storeCell}
 use Rattle.memory.specs.Scratch.{scratchWidths}
 use Rattle.memory.specs.declared.layout.Layout.{Layout}
@@ -17,7 +18,7 @@ use Rattle.memory.proofs.CellLaws.{Sized, sized-cell, cell-store-same, cell-sto
 use Rattle.memory.proofs.ScratchLaws.{sized-among, width-blocks}
 use Rattle.edges.specs.Edges.{Holds}
 use Rattle.order.specs.Turns.{marked, marks, framesOf, stackOf, searchOf, turned, Good, Kept, Begun, Facing, Entered, Turned, Looked}
-use Rattle.order.proofs.Marks.{marked-not, marks-fit, marks-set, marks-miss, marks-none, map-set, map-replicate}
+use Rattle.order.proofs.Marks.{marked-not, marks-fit, marks-set, marks-miss, marks-none, map-replicate}
 use Rattle.order.proofs.FrameLaws.{frames-none, frames-push, frames-next, stack-top, kept-trans}
 
 -- ---- searches by their parts

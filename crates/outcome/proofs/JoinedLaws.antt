@@ -7,7 +7,7 @@ use native.Mathlib.Omega.{arith}
 use lib.ListN.{length, getD, drop, length-append}
 use lib.Seq.{drop-at, drop-append-add}
 use Rattle.dataflow.specs.Lists.{range}
-use Rattle.dataflow.proofs.Lists.{length-tabulate}
+use Rattle.dataflow.proofs.Lists.{range-length}
 use Rattle.outcome.specs.Buffers.{joined}
 
 pub joined-append : {A : Type 0} (f : A → List ℕ) (l m : List A) → joined f (l ++ m) ≡ joined f l ++ joined f m
@@ -43,4 +43,4 @@ module _ {A : Type 0} (f : A → List ℕ) (h : ℕ) (all : (a : A) → length (
 
 -- lists of one length, by number
 pub joined-range : (f : ℕ → List ℕ) (h : ℕ) → ((c : ℕ) → length (f c) ≡ h) → (n : ℕ) → length (joined f (range 0 n)) ≡ n * h
-joined-range f h all n = joined-length f h all (range 0 n) ∙ ap (λ (k : ℕ). k * h) (length-tabulate 0 n (λ i. i))
+joined-range f h all n = joined-length f h all (range 0 n) ∙ ap (λ (k : ℕ). k * h) (range-length 0 n)

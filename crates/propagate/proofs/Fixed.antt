@@ -73,33 +73,14 @@ rows-set d y t c x lt fits =
 pub record Fixed (d : Direction) (y : Layout) (m₀ m : Mem) : Type 0 where
   pub others : (k : ℕ) → (k ≡ ringCell → ⊥) → (k ≡ queuedCell → ⊥) → (k ≡ runningRow d y → ⊥) → cell m k ≡ cell m₀ k
 
--- the running row is behind the cells of blocks and edges
-running-high : (d : Direction) (y : Layout) → 18 ≤ runningRow d y
-running-high Initialization y = omega arith
-running-high Liveness y = omega arith
+-- the running row is behind the blocks' rows, and before that of the parameters
+pub running-at : (d : Direction) (y : Layout) → (18 + 4 * y .blocks ≤ runningRow d y) × (runningRow d y < 20 + 4 * y .blocks)
+running-at Initialization y = (omega arith, omega arith)
+running-at Liveness y = (omega arith, omega arith)
 
--- and is no block's
-running-uses : (d : Direction) (y : Layout) (b : ℕ) → b < y .blocks → usesRow b ≡ runningRow d y → ⊥
-running-uses Initialization y b lt e = omega arith
-running-uses Liveness y b lt e = omega arith
-
-running-defines : (d : Direction) (y : Layout) (b : ℕ) → b < y .blocks → definesRow b ≡ runningRow d y → ⊥
-running-defines Initialization y b lt e = omega arith
-running-defines Liveness y b lt e = omega arith
-
--- nor the parameters'
-running-parameters : (d : Direction) (y : Layout) → parametersRow (y .blocks) ≡ runningRow d y → ⊥
-running-parameters Initialization y e = omega arith
-running-parameters Liveness y e = omega arith
-
--- it is among the cells
-pub running-among : (d : Direction) (y : Layout) → runningRow d y < 22 + 4 * y .blocks
-running-among Initialization y = omega arith
-running-among Liveness y = omega arith
-
--- so it is none of those cells
-pub running-low : (d : Direction) (y : Layout) (k : ℕ) → k < 18 → k ≡ runningRow d y → ⊥
-running-low d y k lt e = omega (arith, running-high d y)
+-- so it is none of the cells before
+pub not-running : (d : Direction) (y : Layout) (k : ℕ) → k < 18 + 4 * y .blocks → k ≡ runningRow d y → ⊥
+not-running d y k lt e = omega (arith, running-at d y .0)
 
 module _ {d : Direction} {y : Layout} {m₀ : Mem} where
   -- nothing is stored
@@ -119,7 +100,7 @@ module _ {d : Direction} {y : Layout} {m₀ : Mem} where
 
     -- a word of a cell that is not the ring's and not the marks'
     fixed-word : (k i : ℕ) → k < 18 → (k ≡ ringCell → ⊥) → (k ≡ queuedCell → ⊥) → word m k i ≡ word m₀ k i
-    fixed-word k i lt a b = ap (λ (c : List ℕ). getD c i 0) (f .others k a b (running-low d y k lt))
+    fixed-word k i lt a b = ap (λ (c : List ℕ). getD c i 0) (f .others k a b (not-running d y k (omega arith)))
 
     -- who is reachable
     pub fixed-reachable : (i : ℕ) → word m reachableCell i ≡ word m₀ reachableCell i
@@ -193,7 +174,7 @@ module _ {d : Direction} {y : Layout} {m₀ m : Mem} (f : Fixed d y m₀ m) wher
     where
       go : (e : Direction) → d ≡ e → entryOf e y m b ≡ entryOf e y m₀ b
       go Initialization q = ap (λ (x : List ℕ). pick (eqb b 0) x (replicate (y .words) ones))
-          (f .others (parametersRow (y .blocks)) (λ r. omega arith) (λ r. omega arith) (running-parameters d y))
+          (f .others (parametersRow (y .blocks)) (λ r. omega arith) (λ r. omega arith) (λ r. omega (arith, running-at d y .1)))
       go Liveness q = refl
 
   module _ (b : ℕ) (lt : b < y .blocks) where
@@ -203,10 +184,10 @@ module _ {d : Direction} {y : Layout} {m₀ m : Mem} (f : Fixed d y m₀ m) wher
     fixed-transferred x = go d
       where
         defines : cell m (definesRow b) ≡ cell m₀ (definesRow b)
-        defines = f .others (definesRow b) (λ r. omega arith) (λ r. omega arith) (running-defines d y b lt)
+        defines = f .others (definesRow b) (λ r. omega arith) (λ r. omega arith) (not-running d y (definesRow b) (omega arith))
 
         uses : cell m (usesRow b) ≡ cell m₀ (usesRow b)
-        uses = f .others (usesRow b) (λ r. omega arith) (λ r. omega arith) (running-uses d y b lt)
+        uses = f .others (usesRow b) (λ r. omega arith) (λ r. omega arith) (not-running d y (usesRow b) (omega arith))
 
         go : (e : Direction) → transferred e m b x ≡ transferred e m₀ b x
         go Initialization = ap (join x) defines

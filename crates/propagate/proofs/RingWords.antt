@@ -98,12 +98,6 @@ marked-yes v n = ap not (ne-eqb v 0 n)
 pub marked-no : (v : ℕ) → v ≡ 0 → marked v ≡ false
 marked-no v e = ap not (eq-eqb v 0 e)
 
--- a word stored is a mark set
-pub marks-set : (q : List ℕ) (d v : ℕ) → map marked (set q d v) ≡ set (map marked q) d (marked v)
-marks-set [] d v = refl
-marks-set (x ∷ q) zero v = refl
-marks-set (x ∷ q) (suc d) v = ap (λ (t : List Bool). marked x ∷ t) (marks-set q d v)
-
 -- the mark of a block
 pub marks-at : (q : List ℕ) (d : ℕ) → getD (map marked q) d false ≡ marked (getD q d 0)
 marks-at q d = List·getD-map marked q d 0

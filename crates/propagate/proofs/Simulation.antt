@@ -10,6 +10,7 @@ use lib.Dec.{eqb}
 use lib.ListN.{length, getD, set, length-set}
 use Rattle.dataflow.specs.Lists.{pick}
 use Rattle.dataflow.specs.Worklist as worklist
+use Rattle.dataflow.proofs.Lists.{map-set}
 use Rattle.memory.specs.Cells.{Mem, cell, word, store, storeCell}
 use Rattle.memory.specs.Names.{queuedCell, reachableCell, ringCell}
 use Rattle.memory.specs.declared.layout.Layout.{Layout}
@@ -20,9 +21,9 @@ use Rattle.solver.specs.declared.ring.Ring.{Ring}
 use Rattle.solver.specs.Transfer.{runningRow, keptRow}
 use Rattle.solver.specs.Run.{At, atOf, wrap, popped, pushed, offered, firstIn}
 use Rattle.propagate.specs.Rounds.{marked, rowsOf, rowSolver}
-use Rattle.propagate.proofs.RingWords.{ringWords, ring-push, ring-pop, wrap-head, marked-yes, marked-no, marks-set, marks-at}
+use Rattle.propagate.proofs.RingWords.{ringWords, ring-push, ring-pop, wrap-head, marked-yes, marked-no, marks-at}
 use Rattle.propagate.proofs.RingWords.{trues, trues-few, trues-more, trues-less, below-append}
-use Rattle.propagate.proofs.Fixed.{Fixed, fixed-ring, fixed-queued, fixed-running, fixed-reachable, rows-set, running-low}
+use Rattle.propagate.proofs.Fixed.{Fixed, fixed-ring, fixed-queued, fixed-running, fixed-reachable, rows-set, not-running}
 
 -- The words of s, which were m₀ and t₀ at the beginning, hold the rows and the ring of a worklist state.
 pub record Simulates (d : Direction) (y : Layout) (m₀ t₀ : Mem) (s : At) (rows : List (List ℕ)) (r : worklist.Ring) : Type 0 where
@@ -105,7 +106,7 @@ module _ {d : Direction} {y : Layout} {m₀ t₀ : Mem} where
       queue = ap (λ (q : List ℕ). q ++ (c ∷ [])) (h .queue)
           ∙ sym (ap (λ (x : List ℕ). ringWords y x (s .ring .head) (s .ring .count + 1)) ring₂
           ∙ ring-push y (cell (s .mem) ringCell) (s .ring .head) (s .ring .count) c (h .ring-long) (h .head) less);
-      marks = ap (λ (q : List Bool). set q c true) (h .marks) ∙ sym (ap (map marked) queued₂ ∙ marks-set (cell (s .mem) queuedCell) c 1);
+      marks = ap (λ (q : List Bool). set q c true) (h .marks) ∙ sym (ap (map marked) queued₂ ∙ map-set marked (cell (s .mem) queuedCell) c 1);
       head = h .head;
       room = omega (arith, more, h .room);
       marks-long = length-set (r .marks) c true ∙ h .marks-long;
@@ -178,7 +179,7 @@ module _ {d : Direction} {y : Layout} {m₀ t₀ : Mem} where
       queue = ap (λ (x : List ℕ). ringWords y x (wrap y (s .ring .head + 1)) (s .ring .count - 1)) (sym kept);
       marks = ap (λ (q : List Bool). set q (firstIn s) false) (h .marks)
           ∙ sym (ap (map marked) (cell-store-same (s .mem) queuedCell (set (cell (s .mem) queuedCell) (firstIn s) 0) (omega (arith, h .cells)))
-          ∙ marks-set (cell (s .mem) queuedCell) (firstIn s) 0);
+          ∙ map-set marked (cell (s .mem) queuedCell) (firstIn s) 0);
       head = wrap-head y (s .ring .head) (h .head);
       room = omega (arith, h .room, trues-less (r .marks) (firstIn s));
       marks-long = length-set (r .marks) (firstIn s) false ∙ h .marks-long;
@@ -209,7 +210,7 @@ module _ {d : Direction} {y : Layout} {m₀ t₀ : Mem} where
   }
     where
       kept : (k : ℕ) → k < 18 → cell (storeCell m (runningRow d y) x) k ≡ cell m k
-      kept k lt = cell-store-other m (runningRow d y) x k (running-low d y k lt)
+      kept k lt = cell-store-other m (runningRow d y) x k (not-running d y k (omega arith))
 
   -- a row is stored among those that the round keeps
   pub simulates-stored : (m t : Mem) (g : Ring) (c : ℕ) (x : List ℕ) {rows : List (List ℕ)} {r : worklist.Ring} → c < y .blocks

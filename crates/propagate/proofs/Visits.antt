@@ -31,7 +31,7 @@ use Rattle.solver.specs.Run.{At, Out, on, atOf, paid, onward, popped, offered, 
 use Rattle.solver.specs.Run.{run}
 use Rattle.propagate.specs.Rounds.{rowSolver}
 use Rattle.propagate.proofs.RingWords.{ring-none}
-use Rattle.propagate.proofs.Fixed.{fixed-count, fixed-neighbors, fixed-computed, neighbors-long, rows-at, running-among}
+use Rattle.propagate.proofs.Fixed.{fixed-count, fixed-neighbors, fixed-computed, neighbors-long, rows-at, running-at}
 use Rattle.propagate.proofs.Simulation.{Simulates, offeredAll, behind, simulates-told, simulates-first, first-below, simulates-popped}
 use Rattle.propagate.proofs.Simulation.{simulates-computed, simulates-stored}
 
@@ -142,7 +142,7 @@ module _ (d : Direction) (y : Layout) (l : Limits) (m₀ t₀ : Mem) where
       -- the running row holds the new row
       running : cell (s₂ .mem) (runningRow d y) ≡ v
       running =
-          cell-store-same (unmarked s) (runningRow d y) (computed d y (unmarked s) (s .sets) c) (omega (arith, one .cells, running-among d y))
+          cell-store-same (unmarked s) (runningRow d y) (computed d y (unmarked s) (s .sets) c) (omega (arith, one .cells, running-at d y .1))
           ∙ fixed-computed (one .fixed) (s .sets) h₀ c below ∙ ap (solver .compute c) (sym (h .table))
 
       -- the row that is kept is the table's

@@ -15,8 +15,8 @@ use Rattle.budget.specs.declared.FlowBudget.{FlowBudget}
 use Rattle.budget.specs.declared.Limits.{Limits}
 use Rattle.budget.specs.declared.Charged.{Charged}
 use Rattle.budget.specs.declared.Charged.the-variants as charging
-use Rattle.budget.specs.Budget.{charged, budgetOf, stateBytes, andCharged}
-use Rattle.budget.proofs.BudgetLaws.{charged-cons}
+use Rattle.budget.specs.Budget.{charged, budgetOf, stateBytes}
+use Rattle.budget.proofs.BudgetLaws.{met-then, over-then}
 use Rattle.format.specs.declared.refusal.Refusal.the-variants.{NoRoom, StateLimit, WorkLimit}
 use Rattle.memory.specs.Cells.{Mem}
 use Rattle.memory.specs.declared.layout.Layout.{Layout}
@@ -122,12 +122,21 @@ pub first-charges : (s : List ℕ) (x : Script) → Sound s x → (l : Limits) (
     → charged l b (replicate (x .count) 1) ≡ charged l b (leaderCharges (flowCode (partsOf s)))
 first-charges s x h l b = ap (λ (k : ℕ). charged l b (replicate k 1)) (sym (code-length s x h))
 
+-- a stage whose charges crossed the limit refuses
+pub over-refused : (c : Charged) (z : FlowBudget) (f : FlowBudget → Staged) (r : Staged) → c ≡ charging.Over z → r ≡ Refused WorkLimit (budgetOf c)
+    → r ≡ ifMet c f
+over-refused c z f r eo er = er ∙ ap (λ (d : Charged). Refused WorkLimit (budgetOf d)) eo ∙ ap (λ (d : Charged). ifMet d f) (sym eo)
+
 module _ (s : List ℕ) (x : Script) (l : Limits) (lent : Lent) (b : FlowBudget) (w w′ : List ℕ) where
+  -- what follows the charges
+  abbrev rooms : FlowBudget → Staged
+  rooms = roomsOf l (layoutOf x (blockCount (flowCode (partsOf s)))) (length w) lent
+
   -- a charge of the first loop crossed the limit
   pub counted-over : (c : Charged) (z : FlowBudget) (r : Staged) → c ≡ charged l b (leaderCharges (flowCode (partsOf s))) → c ≡ charging.Over z
       → r ≡ Refused WorkLimit (budgetOf c) → Counted s x l lent b w w′ r
   counted-over c z r ec eo er = record {
-    answer = er ∙ ap (λ (d : Charged). Refused WorkLimit (budgetOf d)) eo ∙ ap (λ (d : Charged). ifMet d (roomsOf l (layoutOf x (blockCount (flowCode (partsOf s)))) (length w) lent)) (sym eo ∙ ec);
+    answer = over-refused c z rooms r eo er ∙ ap (λ (d : Charged). ifMet d rooms) ec;
     indexes = λ y left q. let o : _≡_ {A = ℕ} 0 1 = cc in absurd (omega arith);
   }
 
@@ -137,7 +146,7 @@ module _ (s : List ℕ) (x : Script) (l : Limits) (lent : Lent) (b : FlowBudget)
       → y ≡ layoutOf x blocks → n ≡ length w → r ≡ roomsOf l y n lent left → Counted s x l lent b w w′ r
   counted-on h c left m m₁ blocks r leads ec g q y₀ n ey en e₀ = record {
     answer = er ∙ ap (λ (k : ℕ). roomsOf l (layoutOf x k) (length w) lent left) is
-        ∙ ap (λ (d : Charged). ifMet d (roomsOf l (layoutOf x (blockCount (flowCode (partsOf s)))) (length w) lent)) (sym ec ∙ charges);
+        ∙ ap (λ (d : Charged). ifMet d rooms) (sym ec ∙ charges);
     indexes = λ y left′ e. yes-of y left′ (rooms-yes l (layoutOf x blocks) (length w) lent left y left′ (sym er ∙ e));
   }
     where
@@ -164,22 +173,16 @@ module _ (s : List ℕ) (x : Script) (l : Limits) (lent : Lent) (b : FlowBudget)
   pub measured-over : (c : Charged) (z : FlowBudget) (r : Staged) → c ≡ charged l b (0 ∷ []) → c ≡ charging.Over z
       → r ≡ Refused WorkLimit (budgetOf c) → Measured s x l lent b w w′ r
   measured-over c z r ec eo er = record {
-    answer = er ∙ ap (λ (d : Charged). Refused WorkLimit (budgetOf d)) eo
-        ∙ ap (λ (d : Charged). ifMet (andCharged d (λ b′. charged l b′ (leaderCharges (flowCode (partsOf s)))))
-        (roomsOf l (layoutOf x (blockCount (flowCode (partsOf s)))) (length w) lent)) (sym eo ∙ ec)
-        ∙ ap (λ (d : Charged). ifMet d (roomsOf l (layoutOf x (blockCount (flowCode (partsOf s)))) (length w) lent))
-        (sym (charged-cons l b 0 (leaderCharges (flowCode (partsOf s)))));
+    answer = over-refused c z rooms r eo er
+        ∙ ap (λ (d : Charged). ifMet d rooms) (eo ∙ sym (over-then l b (0 ∷ []) (leaderCharges (flowCode (partsOf s))) (sym ec ∙ eo)));
     indexes = λ y left q. let o : _≡_ {A = ℕ} 0 1 = cc in absurd (omega arith);
   }
 
--- it was met
-pub measured-on : (s : List ℕ) (x : Script) (l : Limits) (lent : Lent) (b left : FlowBudget) (w w′ : List ℕ) (c : Charged) (r : Staged)
-    → c ≡ charged l b (0 ∷ []) → c ≡ charging.Ok left → Counted s x l lent left w w′ r → Measured s x l lent b w w′ r
-measured-on s x l lent b left w w′ c r ec eo g = record {
-  answer = g .answer
-      ∙ ap (λ (d : Charged). ifMet (andCharged d (λ b′. charged l b′ (leaderCharges (flowCode (partsOf s)))))
-      (roomsOf l (layoutOf x (blockCount (flowCode (partsOf s)))) (length w) lent)) (sym eo ∙ ec)
-      ∙ ap (λ (d : Charged). ifMet d (roomsOf l (layoutOf x (blockCount (flowCode (partsOf s)))) (length w) lent))
-      (sym (charged-cons l b 0 (leaderCharges (flowCode (partsOf s)))));
-  indexes = g .indexes;
-}
+  -- it was met
+  pub measured-on : (left : FlowBudget) (c : Charged) (r : Staged) → c ≡ charged l b (0 ∷ []) → c ≡ charging.Ok left
+      → Counted s x l lent left w w′ r → Measured s x l lent b w w′ r
+  measured-on left c r ec eo g = record {
+    answer = g .answer
+        ∙ ap (λ (d : Charged). ifMet d rooms) (sym (met-then l b (0 ∷ []) (leaderCharges (flowCode (partsOf s))) (sym ec ∙ eo)));
+    indexes = g .indexes;
+  }

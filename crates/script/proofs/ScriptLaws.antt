@@ -1,18 +1,19 @@
 -- The code of a sheet that passed meets the side conditions of every law on code. Assumes nothing.
 use mathlib.Core.Path.{_≡_, refl, sym, ap, subst, _∙_}
 use mathlib.Core.Bool.{Bool, true, false, _||_, true≢false, false≢true}
-use mathlib.Core.List.{List, [], _∷_, map, List·Memᴰ, List·Memᴰ·not-nil, List·Memᴰ·cases-cons}
+use mathlib.Core.List.{List, [], _∷_, List·Memᴰ, List·Memᴰ·not-nil, List·Memᴰ·cases-cons}
 use mathlib.Core.Logic.{_⊎_, inl, inr}
 use mathlib.Core.Option.{Option, none, some}
-use Prim.Native.Nat.{ℕ, zero, suc, _+_, _-_, _≤_, _<_}
+use Prim.Native.Nat.{ℕ, suc, _+_, _-_, _≤_, _<_}
 use native.Mathlib.Decide.{decLt}
 use native.Mathlib.Omega.{arith}
 use lib.Dec.{T, eqb}
-use lib.ListN.{length, getD, replicate}
+use lib.ListN.{length, getD, replicate, length-map, List·getD-eq-default}
 use borrow.Author.Tests.{eqb-true}
 use Rattle.dataflow.specs.Lists.{elem}
 use Rattle.dataflow.specs.Code as flow
 use Rattle.dataflow.specs.Checked.{Checked}
+use Rattle.dataflow.proofs.Lists.{map-at}
 use Rattle.operands.specs.Kinds.{endsBlock}
 use Rattle.operands.specs.Places.{Place, gathered}
 use Rattle.operands.specs.Variants.{variants, jumpTargets}
@@ -27,21 +28,6 @@ use Rattle.instructions.proofs.SetMembers.{records-count}
 use Rattle.script.specs.Script.{listOf, flowInstruction, flowCode, parameterIn}
 
 -- ---- lists
-
-length-map : {A B : Type 0} (f : A → B) (l : List A) → length (map f l) ≡ length l
-length-map f [] = refl
-length-map f (x ∷ l) = ap suc (length-map f l)
-
-getD-map : {A B : Type 0} (f : A → B) (l : List A) (k : ℕ) (d : B) (e : A) → k < length l → getD (map f l) k d ≡ f (getD l k e)
-getD-map f [] k d e h = absurd (omega arith)
-getD-map f (x ∷ l) zero d e h = refl
-getD-map f (x ∷ l) (suc k) d e h = getD-map f l k d e (omega arith)
-
-getD-past : {A : Type 0} (l : List A) (k : ℕ) (d : A) → length l ≤ k → getD l k d ≡ d
-getD-past [] zero d h = refl
-getD-past [] (suc k) d h = refl
-getD-past (x ∷ l) zero d h = absurd (omega arith)
-getD-past (x ∷ l) (suc k) d h = getD-past l k d (omega arith)
 
 -- what stands in a list of numbers below n is below n
 pub elem-below : (n x : ℕ) (l : List ℕ) → AllBelow n l → elem x l ≡ true → x < n
@@ -75,16 +61,16 @@ module _ (s : List ℕ) (x : Script) (h : Sound s x) where
 
   pub code-length : length (flowCode (partsOf s)) ≡ x .count
   unfolding flowCode
-  code-length = length-map flowInstruction (partsOf s .code) ∙ code-count
+  code-length = length-map (partsOf s .code) flowInstruction ∙ code-count
 
   pub code-at : (k : ℕ) → k < x .count → flow.instructionAt (flowCode (partsOf s)) k ≡ flowInstruction (read k)
   unfolding flowCode
   code-at k l =
-      getD-map flowInstruction (partsOf s .code) k flow.outside (record { kind = 0; fields = [] }) (omega (arith, code-count))
+      map-at flowInstruction (partsOf s .code) k (record { kind = 0; fields = [] }) flow.outside (omega (arith, code-count))
       ∙ ap flowInstruction (h .instruction-is k l)
 
   pub code-past : (k : ℕ) → x .count ≤ k → flow.instructionAt (flowCode (partsOf s)) k ≡ flow.outside
-  code-past k l = getD-past (flowCode (partsOf s)) k flow.outside (omega (arith, code-length))
+  code-past k l = List·getD-eq-default (flowCode (partsOf s)) flow.outside (omega (arith, code-length))
 
   -- a property of every instruction, inside the code and past its end
   everywhere : (P : flow.Instruction → Type 0) → ((k : ℕ) → k < x .count → P (flowInstruction (read k))) → P flow.outside
