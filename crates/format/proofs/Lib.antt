@@ -3,3 +3,4 @@ pub mod Or
 pub mod HeadLaws
 pub mod TypeLaws
 pub mod FieldLaws
+pub mod FitLaws

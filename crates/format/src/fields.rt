@@ -4,12 +4,14 @@ use operands::pattern;
 use operands::pattern::Pattern;
 use operands::slots::AsModuleSlot;
 use operands::slots::ModuleSlot;
+ghost use mathlib.Core.Bool.{true};
 ghost use mathlib.Core.Path.{_≡_};
-ghost use Prim.Native.Nat.{_+_, _*_, _≤_};
+ghost use Prim.Native.Nat.{ℕ, _+_, _*_, _≤_, _<_};
 ghost use lib.ListN.{length};
-ghost use Rattle.operands.specs.Bytes.{numbersAt};
+ghost use Rattle.operands.specs.Bytes.{u32At, numbersAt};
 ghost use Rattle.operands.specs.Instructions.{Known};
-ghost use Rattle.format.specs.Fields.{badModule, noSlot, noTarget, anyAbove, FaultsIn};
+ghost use Rattle.operands.specs.Patterns.{fits, roleAt};
+ghost use Rattle.format.specs.Fields.{badModule, noSlot, noTarget, boundOf, Faultless, anyAbove, noFaults, FaultsIn};
 
 // What is wrong with the fields of an instruction.
 pub struct Faults {
@@ -51,8 +53,86 @@ fn no_target(role: u16, x: u32, count: usize) -> bool
     (role == pattern::T) & (count <= x as usize)
 }
 
-// What is wrong with the fields of an instruction, which begin at body.
+// What a field must be below: N if it is a target, 65,536 if it is a module slot, else the slot count.
+fn bound(role: u16, slots: usize, count: usize) -> usize
+    ensures { λ r. ⌜ r ≡ boundOf slots count role ⌝ }
+{
+    if role == pattern::T {
+        return count;
+    }
+    if role == pattern::M {
+        return 65536;
+    }
+    slots
+}
+
+// Whether a field is below its bound, or absent where that may be.
+fn field_fits(role: u16, x: u32, slots: usize, count: usize) -> bool
+    ensures { λ r. ⌜ (r ≡ true → Faultless slots count role x) ⌝ }
+{
+    if (x as usize) < bound(role, slots, count) {
+        return true;
+    }
+    let optional = (role == pattern::SOPT) | (role == pattern::DOPT);
+    optional & (x == instruction::ABSENT)
+}
+
+// Whether each of the first fields of an instruction fits.
+fn first_fit(s: &[u8], p: Pattern, body: usize, first: usize, slots: usize, count: usize) -> bool
+    requires { ⌜ (Known p) × (body + 4 * first ≤ length (now s)) ⌝ }
+    ensures { λ r. ⌜ (r ≡ true → (j : ℕ) → j < first → Faultless slots count (roleAt (p .kind) j) (u32At (now (s .entry)) (body + 4 * j))) ⌝ }
+{
+    let mut j = 0;
+    while j < first {
+        if !field_fits(
+            p.role(j),
+            instruction::u32_at(s, body + 4 * j),
+            slots,
+            count,
+        ) {
+            return false;
+        }
+        j += 1;
+    }
+    true
+}
+
+// Whether every field of an instruction fits: the single ones, then those of L.
+fn all_fit(s: &[u8], p: Pattern, body: usize, fields: usize, slots: usize, count: usize) -> bool
+    requires { ⌜ (Known p) × (fits (p .kind) fields ≡ true) × (body + 4 * fields ≤ length (now s)) ⌝ }
+    ensures { λ r. ⌜ (r ≡ true → FaultsIn (p .kind) (numbersAt (now (s .entry)) body fields) slots count noFaults) ⌝ }
+{
+    let fixed = p.fixed_fields();
+    if first_fit(s, p, body, fixed, slots, count) {
+        return !any_above(s, body + 4 * fixed, fields - fixed, slots);
+    }
+    false
+}
+
+// What is wrong with the fields of an instruction, which begin at body. Only where one does not fit is each looked at for its fault.
 pub fn field_faults(
+    s: &[u8],
+    p: Pattern,
+    body: usize,
+    fields: usize,
+    slots: usize,
+    count: usize,
+) -> Faults
+    requires { ⌜ (Known p) × (fits (p .kind) fields ≡ true) × (body + 4 * fields ≤ length (now s)) ⌝ }
+    ensures { λ r. ⌜ FaultsIn (p .kind) (numbersAt (now (s .entry)) body fields) slots count r ⌝ }
+{
+    if all_fit(s, p, body, fields, slots, count) {
+        return Faults {
+            modules: false,
+            slots: false,
+            targets: false,
+        };
+    }
+    faults_among(s, p, body, fields, slots, count)
+}
+
+// The same, by looking at every field.
+fn faults_among(
     s: &[u8],
     p: Pattern,
     body: usize,

@@ -13,7 +13,7 @@ use Rattle.operands.specs.Instructions.{nth}
 use Rattle.operands.specs.declared.instruction.Value.the-variants.{Is}
 use Rattle.operands.proofs.NumberLaws.{number-at, number-count}
 use Rattle.format.specs.Fields.{anyAbove}
-use Rattle.records.proofs.Passed.{or-none}
+use Rattle.format.proofs.Or.{or-none}
 use Rattle.instructions.specs.Sets.{AllBelow}
 
 pub below-getD : (n : ℕ) (l : List ℕ) (k d : ℕ) → AllBelow n l → k < length l → getD l k d < n

@@ -17,7 +17,7 @@ use Rattle.operands.proofs.PatternLaws.{role-late}
 use Rattle.operands.proofs.PlaceLaws.{singles-more}
 use Rattle.operands.proofs.InstructionLaws.{field-there, drop-all, inputs-two}
 use Rattle.format.specs.Fields.{noSlot, noTarget, anyField}
-use Rattle.records.proofs.Passed.{or-none}
+use Rattle.format.proofs.Or.{or-none}
 use Rattle.instructions.specs.Sets.{AllBelow}
 use Rattle.instructions.proofs.Below.{below-append, below-all}
 

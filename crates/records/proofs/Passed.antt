@@ -15,6 +15,7 @@ use Rattle.format.specs.Refusals.{due}
 use Rattle.format.specs.Heads.{short, kindAt, endAt, bodyLength, fieldsAt}
 use Rattle.format.specs.Types.{wholeType, endsWith}
 use Rattle.format.specs.Fields.{badModule, noSlot, noTarget, anyField, anyAbove}
+use Rattle.format.proofs.Or.{or-none}
 use Rattle.records.specs.Records.{functionFault, parametersFault, badSlot, slotFault, badInstruction, instructionFault}
 
 -- a test on the way did not hold
@@ -25,10 +26,6 @@ none-due true r rest e = let z : _≡_ {A = ℕ} 0 1 = cc in absurd (omega arith
 pub not-false : (b : Bool) → not b ≡ false → b ≡ true
 not-false true e = refl
 not-false false e = let z : _≡_ {A = ℕ} 0 1 = cc in absurd (omega arith)
-
-pub or-none : (a b : Bool) → (a || b) ≡ false → (a ≡ false) × (b ≡ false)
-or-none false b e = (refl, e)
-or-none true b e = let z : _≡_ {A = ℕ} 0 1 = cc in absurd (omega arith)
 
 pub and-both : (a b : Bool) → (a && b) ≡ true → (a ≡ true) × (b ≡ true)
 and-both true b e = (refl, e)

@@ -14,7 +14,8 @@ use Rattle.format.specs.declared.refusal.Refusal.the-variants.{LeftOver, TooMan
 use Rattle.format.specs.Refusals.{due, orElse}
 use Rattle.format.specs.Heads.{kindAt, endAt}
 use Rattle.records.specs.Records.{functionFault, parametersFault}
-use Rattle.records.proofs.Passed.{none-due, not-false, or-none, parameters-passed}
+use Rattle.format.proofs.Or.{or-none}
+use Rattle.records.proofs.Passed.{none-due, not-false, parameters-passed}
 use Rattle.format.proofs.HeadLaws.{lies}
 use Rattle.sheet.specs.declared.script.Script.{Script}
 use Rattle.sheet.specs.declared.script.Checked.{Checked}

@@ -81,7 +81,7 @@ field-faults-requires c κs =
     let i = inside (now (a .s)) (a .at) (k .0) (k .1 .0) (k .1 .1 .0)
     (sym (c .before .before .before .before .before .before .before .kind .given .1)
     ∙ c .before .before .before .before .before .before .before .before .before .head-at .ensures) in
-    (c .before .before .before .of .ensures .1, omega (arith, i .ordered, i .within))
+    (c .before .before .before .of .ensures .1, sym (c .before .fits2 .ensures) ∙ c .if4 .taken, omega (arith, i .ordered, i .within))
 
 fields-step-requires : tie.Need-fields-step-requires
 fields-step-requires c κs = search needs
