@@ -1,17 +1,38 @@
--- What the words of a graph hold stays where its two cells stay, and what a cleared cell holds. Assumes nothing.
-use mathlib.Core.Path.{_≡_, ap, _∙_}
+-- Words as marks, what the words of a graph hold stays where its two cells stay, and what a cleared cell holds. Assumes nothing.
+use mathlib.Core.Path.{_≡_, refl, ap, _∙_}
+use mathlib.Core.Bool.{Bool, true, false}
 use mathlib.Core.Logic.{_≢_}
 use mathlib.Core.List.{List}
-use Prim.Native.Nat.{ℕ, _+_, _*_, _≤_, _<_}
+use Prim.Native.Nat.{ℕ, zero, suc, _+_, _*_, _≤_, _<_}
 use native.Mathlib.Omega.{arith}
 use lib.ListN.{getD, set, replicate, getD-replicate}
 use Rattle.memory.specs.Cells.{Mem, cell, word, store, storeCell}
-use Rattle.memory.specs.Names.{successorCell, successorCountCell}
+use Rattle.memory.specs.Names.{flag, successorCell, successorCountCell}
 use Rattle.memory.specs.Scratch.{scratchWidths}
 use Rattle.memory.specs.declared.layout.Layout.{Layout}
 use Rattle.memory.proofs.CellLaws.{Sized, word-cell-same, cell-store-other}
 use Rattle.memory.proofs.ScratchLaws.{sized-among, width-blocks}
-use Rattle.edges.specs.Edges.{Holds, Cleared}
+use Rattle.edges.specs.Edges.{marked, Holds, Cleared}
+
+-- ---- marks
+
+pub marked-yes : (v : ℕ) → (v ≡ 0 → ⊥) → marked v ≡ true
+marked-yes zero h = absurd (h refl)
+marked-yes (suc v) h = refl
+
+pub marked-no : (v : ℕ) → v ≡ 0 → marked v ≡ false
+marked-no v e = ap marked e
+
+-- a truth value as a word, and back
+pub marked-flag : (t : Bool) → marked (flag t) ≡ t
+marked-flag true = refl
+marked-flag false = refl
+
+pub flag-few : (t : Bool) → flag t ≤ 1
+flag-few true = omega arith
+flag-few false = omega arith
+
+-- ---- what stays
 
 -- words of cells that are equal are equal
 pub same-word : (m m′ : Mem) (k i : ℕ) → cell m′ k ≡ cell m k → word m′ k i ≡ word m k i

@@ -1,11 +1,17 @@
 -- A graph of blocks in the words of scratch: how many successors each block has, and which.
 use mathlib.Core.Path.{_≡_}
+use mathlib.Core.Bool.{Bool, true, false}
 use mathlib.Core.List.{List}
-use Prim.Native.Nat.{ℕ, _+_, _*_, _≤_, _<_}
+use Prim.Native.Nat.{ℕ, zero, suc, _+_, _*_, _≤_, _<_}
 use lib.ListN.{length, getD}
 use Rattle.memory.specs.Cells.{Mem, cell, word}
 use Rattle.memory.specs.Names.{successorCell, successorCountCell}
 use Rattle.memory.specs.declared.layout.Layout.{Layout}
+
+-- a word as a truth value: a mark where it is not 0
+abbrev pub marked : ℕ → Bool
+marked zero = false
+marked (suc n) = true
 
 -- The words hold the graph `next`: at most two edges a block (kinds 12 and 39), each to a block; edge 2 × b + k is the k-th of block b.
 pub record Holds (next : ℕ → List ℕ) (y : Layout) (m : Mem) : Type 0 where

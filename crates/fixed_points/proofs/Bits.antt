@@ -28,12 +28,13 @@ use Rattle.memory.specs.Names.{flag, reachableCell, usesRow, definesRow, parame
 use Rattle.memory.specs.Scratch.{scratchWidths, Row}
 use Rattle.memory.specs.declared.layout.Layout.{Layout}
 use Rattle.memory.proofs.CellLaws.{Sized}
+use Rattle.edges.specs.Edges.{marked}
 use Rattle.edges.specs.Predecessors.{AllBelow}
 use Rattle.solver.specs.declared.direction.Direction.{Direction}
 use Rattle.solver.specs.declared.direction.Direction.the-variants.{Initialization, Liveness}
 use Rattle.solver.specs.Neighbors.{readsOf, dependentsOf, neighbors}
 use Rattle.solver.specs.Transfer.{entryOf, transferred}
-use Rattle.propagate.specs.Rounds.{marked, gatherRow, gatherRows, rowSolver}
+use Rattle.propagate.specs.Rounds.{gatherRow, gatherRows, rowSolver}
 use Rattle.edges.specs.Flow.{Flows}
 use Rattle.fixed_points.specs.FixedPoints.{Scripted}
 use Rattle.fixed_points.proofs.CodeGraph.{directionOf, neighbors-are, reachable-are, connected}

@@ -1,6 +1,6 @@
 -- The graph of the code as the words hold it, for every number, also past the last block. Assumes nothing.
 use mathlib.Core.Path.{_≡_, refl, sym, ap, _∙_}
-use mathlib.Core.Bool.{Bool, true, false}
+use mathlib.Core.Bool.{Bool, false}
 use mathlib.Core.List.{List, [], _∷_, List·Memᴰ, List·Memᴰ·head}
 use Prim.Native.Nat.{ℕ, _≤_, _<_}
 use native.Mathlib.Omega.{arith}
@@ -12,20 +12,21 @@ use Rattle.dataflow.specs.Results.{predecessors, swept, reachable}
 use Rattle.dataflow.proofs.CodeBlocks.{successors-below, successors-past, blocks-some}
 use Rattle.dataflow.proofs.Results.{live-sound-graph, seed-sound}
 use Rattle.memory.specs.Cells.{Mem, cell, word}
-use Rattle.memory.specs.Names.{flag, reachableCell, successorCountCell, predecessorCountCell}
+use Rattle.memory.specs.Names.{reachableCell, successorCountCell, predecessorCountCell}
 use Rattle.memory.specs.Scratch.{scratchWidths}
 use Rattle.memory.specs.declared.layout.Layout.{Layout}
 use Rattle.memory.proofs.CellLaws.{Sized}
 use Rattle.memory.proofs.ScratchLaws.{width-blocks}
+use Rattle.edges.specs.Edges.{marked}
 use Rattle.edges.specs.Predecessors.{predecessorsOf}
 use Rattle.solver.specs.declared.direction.Direction.{Direction}
 use Rattle.solver.specs.declared.direction.Direction.the-variants.{Initialization, Liveness}
 use Rattle.solver.specs.declared.direction.Side.{Side}
 use Rattle.solver.specs.declared.direction.Side.the-variants.{Successors, Predecessors}
 use Rattle.solver.specs.Neighbors.{countOf, firstOf, edgesFrom, neighborsFrom, neighbors, Connected}
-use Rattle.propagate.specs.Rounds.{marked}
 use Rattle.propagate.proofs.Graphs as graphs
 use Rattle.edges.specs.Flow.{Flows}
+use Rattle.edges.proofs.EdgeLaws.{marked-flag, flag-few}
 use Rattle.fixed_points.specs.FixedPoints.{Scripted}
 
 -- a direction of the solver as one of the analyses
@@ -47,11 +48,6 @@ empty (c ∷ l) h = absurd (h c (List·Memᴰ·head refl))
 neighbors-none : (side : Side) (m : Mem) (b : ℕ) → countOf side m b ≡ 0 → neighbors side m b ≡ []
 unfolding neighborsFrom edgesFrom
 neighbors-none side m b e = ap (λ (n : ℕ). neighborsFrom side m n (firstOf side m b)) e
-
--- a truth value as a word, and back
-pub marked-flag : (t : Bool) → marked (flag t) ≡ t
-marked-flag true = refl
-marked-flag false = refl
 
 module _ {code : List Instruction} {parameter : ℕ → Bool} {y : Layout} {m : Mem} (s : Scripted code parameter (y .words))
     (f : Flows code parameter y m) where
@@ -112,10 +108,6 @@ module _ {code : List Instruction} {parameter : ℕ → Bool} {y : Layout} {m : 
     pub flags-few : (b : ℕ) → word m reachableCell b ≤ 1
     flags-few b = go (decLt b (y .blocks))
       where
-        few : (t : Bool) → flag t ≤ 1
-        few true = omega arith
-        few false = omega arith
-
         go : Dec (b < y .blocks) → word m reachableCell b ≤ 1
-        go (yes lt) = rw (f .reached b lt) (few (reachable code b))
+        go (yes lt) = rw (f .reached b lt) (flag-few (reachable code b))
         go (no nl) = rw (word-past reachableCell b (omega arith) (omega arith) (omega arith)) (omega arith)

@@ -39,10 +39,11 @@ use Rattle.solver.specs.declared.direction.Direction.the-variants.{Initializati
 use Rattle.solver.specs.Neighbors.{readsOf, dependentsOf, neighbors}
 use Rattle.solver.specs.Transfer.{keptRow}
 use Rattle.solver.specs.Run.{queueOf}
-use Rattle.propagate.specs.Rounds.{marked, rowsOf, rowSolver, beginning, roundRun, roundCharges, Propagated}
+use Rattle.propagate.specs.Rounds.{rowsOf, rowSolver, beginning, roundRun, roundCharges, Propagated}
 use Rattle.propagate.proofs.RingWords.{marks-at}
 use Rattle.propagate.proofs.Fixed.{rows-at, rows-long}
 use Rattle.propagate.proofs.Visits.{chargesOf, run-charges, run-parts}
+use Rattle.edges.specs.Edges.{marked}
 use Rattle.edges.specs.Flow.{Flows, Fresh}
 use Rattle.fixed_points.specs.FixedPoints.{Scripted}
 use Rattle.fixed_points.specs.Stages.{InOrder}

@@ -1,5 +1,5 @@
 -- The six numbers of a block record of a script that passed the checks are below 2 ^ 32. Assumes nothing.
-use mathlib.Core.Bool.{Bool, true, false}
+use mathlib.Core.Bool.{Bool}
 use mathlib.Core.List.{List}
 use Prim.Native.Nat.{ℕ, _^_, _≤_, _<_}
 use native.Mathlib.Decide.{decLt}
@@ -16,12 +16,12 @@ use Rattle.instructions.specs.Sound.{Sound}
 use Rattle.script.specs.Script.{flowCode, parameterIn}
 use Rattle.script.proofs.ScriptLaws.{code-length, checked}
 use Rattle.leaders.proofs.IndexLaws.{few-blocks}
+use Rattle.edges.proofs.EdgeLaws.{flag-few}
 use Rattle.blocks.proofs.CodeLaws.{few-successors}
 use Rattle.blocks.proofs.ReadLaws.{targets-everywhere}
 
 pub small-flag : (t : Bool) → flag t < 2 ^ 32
-small-flag true = omega arith
-small-flag false = omega arith
+small-flag t = omega (arith, flag-few t)
 
 module _ (s : List ℕ) (x : Script) (sound : Sound s x) where
   abbrev code : List Instruction

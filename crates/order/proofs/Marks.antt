@@ -1,26 +1,18 @@
 -- Words as truth values: how many are marks, and what a store does to them. Assumes nothing.
 use mathlib.Core.Path.{_≡_, refl, ap}
-use mathlib.Core.Bool.{Bool, true, false}
 use mathlib.Core.List.{List, [], _∷_, map}
 use Prim.Native.Nat.{ℕ, zero, suc, _≤_, _<_}
 use native.Mathlib.Omega.{arith}
 use lib.ListN.{length, getD, set, replicate, length-set}
-use Rattle.memory.specs.Names.{flag}
-use Rattle.order.specs.Turns.{marked, marks}
-
-pub marked-not : (x : ℕ) → (x ≡ 0 → ⊥) → marked x ≡ true
-marked-not zero h = absurd (h refl)
-marked-not (suc x) h = refl
-
-flag-small : (t : Bool) → flag t ≤ 1
-flag-small true = omega arith
-flag-small false = omega arith
+use Rattle.edges.specs.Edges.{marked}
+use Rattle.edges.proofs.EdgeLaws.{flag-few}
+use Rattle.order.specs.Turns.{marks}
 
 -- at most as many marks as words
 pub marks-fit : (l : List ℕ) → marks l ≤ length l
 unfolding marks
 marks-fit [] = omega arith
-marks-fit (x ∷ l) = omega (arith, flag-small (marked x), marks-fit l)
+marks-fit (x ∷ l) = omega (arith, flag-few (marked x), marks-fit l)
 
 -- a mark where there was none is one more
 pub marks-set : (l : List ℕ) (i : ℕ) → i < length l → getD l i 0 ≡ 0 → marks (set l i 1) ≡ suc (marks l)

@@ -17,11 +17,11 @@ use Rattle.budget.specs.declared.Charged.{Charged}
 use Rattle.budget.specs.declared.Charged.the-variants as charging
 use Rattle.budget.specs.Budget.{charged, andCharged}
 use Rattle.budget.proofs.BudgetLaws.{charged-none, charged-cons}
-use Rattle.edges.specs.Edges.{Holds}
+use Rattle.edges.specs.Edges.{marked, Holds}
 use Rattle.order.specs.declared.Ordered.{Ordered}
 use Rattle.order.specs.declared.Ordered.the-variants.{Ok, Over}
 use Rattle.order.specs.Postorder.{searchedFrom, chargedIn, Searched}
-use Rattle.order.specs.Turns.{marked, stackOf, searchOf, turned, Good, Kept, Begun, Turned, Resumed}
+use Rattle.order.specs.Turns.{stackOf, searchOf, turned, Good, Kept, Begun, Turned, Resumed}
 use Rattle.order.proofs.SearchEnd.{search-step, search-stop, turns-step, turns-stop, turn-left, few-turns}
 use Rattle.order.proofs.FrameLaws.{frameAt, frames-none, stack-top, holds-kept, kept-trans, rest-below}
 use Rattle.order.proofs.TurnLaws.{wide, good-room}

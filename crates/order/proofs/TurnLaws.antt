@@ -16,9 +16,10 @@ use Rattle.memory.specs.Scratch.{scratchWidths}
 use Rattle.memory.specs.declared.layout.Layout.{Layout}
 use Rattle.memory.proofs.CellLaws.{Sized, sized-cell, cell-store-same, cell-store-other}
 use Rattle.memory.proofs.ScratchLaws.{sized-among, width-blocks}
-use Rattle.edges.specs.Edges.{Holds}
-use Rattle.order.specs.Turns.{marked, marks, framesOf, stackOf, searchOf, turned, Good, Kept, Begun, Facing, Entered, Turned, Looked}
-use Rattle.order.proofs.Marks.{marked-not, marks-fit, marks-set, marks-miss, marks-none, map-replicate}
+use Rattle.edges.specs.Edges.{marked, Holds}
+use Rattle.edges.proofs.EdgeLaws.{marked-yes}
+use Rattle.order.specs.Turns.{marks, framesOf, stackOf, searchOf, turned, Good, Kept, Begun, Facing, Entered, Turned, Looked}
+use Rattle.order.proofs.Marks.{marks-fit, marks-set, marks-miss, marks-none, map-replicate}
 use Rattle.order.proofs.FrameLaws.{frames-none, frames-push, frames-next, stack-top, kept-trans}
 
 -- ---- searches by their parts
@@ -102,7 +103,7 @@ module _ (y : Layout) (m : Mem) (z : Sized (scratchWidths y) m) where
     -- the block is visited
     pub enter-old : (word m 15 block ≡ 0 → ⊥) → Entered y m m block top top
     enter-old ne = record {
-      looks = λ next len. rw (marked-not (word m 15 block) ne) refl;
+      looks = λ next len. rw (marked-yes (word m 15 block) ne) refl;
       good = λ len g. g;
       others = λ k a b c d. refl;
     }

@@ -1,6 +1,5 @@
 -- The search that the words of scratch stand for, and what each part of `postorder` makes of it.
 use mathlib.Core.Path.{_≡_}
-use mathlib.Core.Bool.{Bool, true, false}
 use mathlib.Core.List.{List, [], _∷_, map, reverse}
 use Prim.Native.Nat.{ℕ, zero, suc, _+_, _-_, _*_, _≤_, _<_}
 use lib.ListN.{getD, take, drop}
@@ -12,14 +11,9 @@ use Rattle.budget.specs.declared.FlowBudget.{FlowBudget}
 use Rattle.budget.specs.declared.Limits.{Limits}
 use Rattle.budget.specs.declared.Charged.the-variants as charging
 use Rattle.budget.specs.Budget.{charged}
-use Rattle.edges.specs.Edges.{Holds, Held}
+use Rattle.edges.specs.Edges.{marked, Holds, Held}
 use Rattle.order.specs.declared.Ordered.{Ordered}
 use Rattle.order.specs.Postorder.{Searched}
-
--- a word of VISITED as a truth value
-abbrev pub marked : ℕ → Bool
-marked zero = false
-marked (suc n) = true
 
 -- how many words are marks
 unfoldable pub marks : List ℕ → ℕ

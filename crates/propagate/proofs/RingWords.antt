@@ -1,18 +1,18 @@
 -- The ring's words as a queue, the marks as truth values, and lists of blocks. Assumes nothing.
 use mathlib.Core.Path.{_≡_, refl, sym, ap, _∙_}
-use mathlib.Core.Bool.{Bool, true, false, not, true≢false}
+use mathlib.Core.Bool.{Bool, true, false, true≢false}
 use mathlib.Core.List.{List, [], _∷_, _++_, map, reverseAux}
 use Prim.Native.Nat.{ℕ, zero, suc, _+_, _-_, _≤_, _<_}
 use native.Mathlib.Omega.{arith}
 use native.Mathlib.Decide.{decLt}
-use borrow.Author.Tests.{lt-ltb, le-ltb, eq-eqb, ne-eqb}
+use borrow.Author.Tests.{lt-ltb, le-ltb}
 use lib.ListN.{length, getD, set, take, drop, replicate, List·getD-map}
 use lib.Seq.{getD-set-same, getD-set-other, drop-cons, take-at}
 use Rattle.dataflow.specs.Lists.{sum}
 use Rattle.memory.specs.declared.layout.Layout.{Layout}
+use Rattle.edges.specs.Edges.{marked}
 use Rattle.edges.specs.Predecessors.{AllBelow}
 use Rattle.solver.specs.Run.{wrap}
-use Rattle.propagate.specs.Rounds.{marked}
 
 -- ---- the queue
 
@@ -91,13 +91,6 @@ module _ (y : Layout) where
 
 -- ---- the marks
 
--- a word is a mark where it is not 0
-pub marked-yes : (v : ℕ) → (v ≡ 0 → ⊥) → marked v ≡ true
-marked-yes v n = ap not (ne-eqb v 0 n)
-
-pub marked-no : (v : ℕ) → v ≡ 0 → marked v ≡ false
-marked-no v e = ap not (eq-eqb v 0 e)
-
 -- the mark of a block
 pub marks-at : (q : List ℕ) (d : ℕ) → getD (map marked q) d false ≡ marked (getD q d 0)
 marks-at q d = List·getD-map marked q d 0
@@ -134,7 +127,7 @@ trues-less (false ∷ l) (suc i) = omega (arith, trues-less l i)
 pub sum-marks : (l : List ℕ) → ((i : ℕ) → getD l i 0 ≤ 1) → sum l ≤ trues (map marked l)
 sum-marks [] h = omega arith
 sum-marks (zero ∷ l) h = omega (arith, sum-marks l (λ i. h (suc i)))
-sum-marks (suc x ∷ l) h = rw (marked-yes (suc x) (λ e. omega arith)) (omega (arith, h 0, sum-marks l (λ i. h (suc i))))
+sum-marks (suc x ∷ l) h = omega (arith, h 0, sum-marks l (λ i. h (suc i)))
 
 -- ---- lists of blocks
 

@@ -26,6 +26,7 @@ use Rattle.memory.specs.declared.layout.Layout.{Layout}
 use Rattle.memory.proofs.CellLaws.{Sized, cell-store-same, cell-store-other}
 use Rattle.memory.proofs.ScratchLaws.{scratch-count, width-blocks}
 use Rattle.memory.proofs.SetsLaws.{sets-count}
+use Rattle.edges.specs.Edges.{marked}
 use Rattle.edges.specs.Predecessors.{AllBelow}
 use Rattle.solver.specs.declared.direction.Direction.{Direction}
 use Rattle.solver.specs.declared.direction.Direction.the-variants.{Initialization, Liveness}
@@ -34,7 +35,7 @@ use Rattle.solver.specs.declared.ring.Turn.{Turn}
 use Rattle.solver.specs.declared.ring.Turn.the-variants.{Stop, Done}
 use Rattle.solver.specs.Neighbors.{readsOf, dependentsOf, neighbors}
 use Rattle.solver.specs.Run.{At, Out, stop, on, atOf, outOf, paid, run, Good, Idle, queueOf, inRing, cleared, seeded, full}
-use Rattle.propagate.specs.Rounds.{marked, rowSolver, beginning, roundRun, roundCharges, chargedOf, Seedable, Propagated}
+use Rattle.propagate.specs.Rounds.{rowSolver, beginning, roundRun, roundCharges, chargedOf, Seedable, Propagated}
 use Rattle.propagate.proofs.RingWords.{ringWords, ring-none, ring-full, sum-marks, below-at, below-append, below-reverse, below-drop}
 use Rattle.propagate.proofs.RingWords.{below-zeros, below-take}
 use Rattle.propagate.proofs.Fixed.{Fixed, fixed-none, fixed-ring, fixed-queued, fixed-connected}

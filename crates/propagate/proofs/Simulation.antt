@@ -16,12 +16,14 @@ use Rattle.memory.specs.Names.{queuedCell, reachableCell, ringCell}
 use Rattle.memory.specs.declared.layout.Layout.{Layout}
 use Rattle.memory.proofs.CellLaws.{cell-store-same, cell-store-other}
 use Rattle.edges.specs.Predecessors.{AllBelow}
+use Rattle.edges.specs.Edges.{marked}
+use Rattle.edges.proofs.EdgeLaws.{marked-yes, marked-no}
 use Rattle.solver.specs.declared.direction.Direction.{Direction}
 use Rattle.solver.specs.declared.ring.Ring.{Ring}
 use Rattle.solver.specs.Transfer.{runningRow, keptRow}
 use Rattle.solver.specs.Run.{At, atOf, wrap, popped, pushed, offered, firstIn}
-use Rattle.propagate.specs.Rounds.{marked, rowsOf, rowSolver}
-use Rattle.propagate.proofs.RingWords.{ringWords, ring-push, ring-pop, wrap-head, marked-yes, marked-no, marks-at}
+use Rattle.propagate.specs.Rounds.{rowsOf, rowSolver}
+use Rattle.propagate.proofs.RingWords.{ringWords, ring-push, ring-pop, wrap-head, marks-at}
 use Rattle.propagate.proofs.RingWords.{trues, trues-few, trues-more, trues-less, below-append}
 use Rattle.propagate.proofs.Fixed.{Fixed, fixed-ring, fixed-queued, fixed-running, fixed-reachable, rows-set, not-running}
 

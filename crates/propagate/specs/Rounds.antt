@@ -1,6 +1,5 @@
 -- A round of `propagate` is the worklist run of `dataflow` over rows of words. Of scratch it reads only what the round leaves alone, so m is
 -- scratch as it was at the beginning.
-use mathlib.Core.Bool.{Bool, not}
 use mathlib.Core.List.{List, [], _∷_, map}
 use mathlib.Core.Path.{_≡_}
 use Prim.Native.Nat.{ℕ, suc, _+_, _≤_, _<_}
@@ -18,6 +17,7 @@ use Rattle.budget.specs.Budget.{charged}
 use Rattle.memory.specs.Cells.{Mem, cell, word}
 use Rattle.memory.specs.Names.{orderCell, queuedCell, reachableCell, ringCell}
 use Rattle.memory.specs.declared.layout.Layout.{Layout}
+use Rattle.edges.specs.Edges.{marked}
 use Rattle.solver.specs.declared.direction.Direction.{Direction}
 use Rattle.solver.specs.declared.direction.Direction.the-variants.{Initialization, Liveness}
 use Rattle.solver.specs.declared.ring.Turn.{Turn}
@@ -25,10 +25,6 @@ use Rattle.solver.specs.declared.ring.Turn.the-variants.{Stop, Done}
 use Rattle.solver.specs.Neighbors.{readsOf, dependentsOf, neighbors, Connected}
 use Rattle.solver.specs.Transfer.{runningRow, keptRow, entryOf, transferred}
 use Rattle.solver.specs.Run.{queueOf}
-
--- a word as a mark
-abbrev pub marked : ℕ → Bool
-marked v = not (eqb v 0)
 
 -- the rows that a round keeps, one a block
 unfoldable pub rowsOf : Direction → Layout → Mem → List (List ℕ)
