@@ -228,6 +228,20 @@ within-member xs ys e i h =
     go true y h q = q
     go false y h q = absurd (false≢true h)
 
+-- ---- zeros joined with a row are the row, and ones met with it
+module _ {w : ℕ} {ws : List ℕ} (h : Words w ws) where
+  pub join-zeros : join (replicate w 0) ws ≡ ws
+  join-zeros =
+      let z : Words w (replicate w 0) = words-replicate w 0 (lit< tt) in
+      same-exact (words-join z ws (h .fits)) h .1
+      (λ i l. member-join (replicate w 0) ws i (omega (arith, length-replicate {A = ℕ} w 0))
+      ∙ ap (λ (t : Bool). t || member ws i) (member-zero w i))
+
+  pub meet-ones : meet (replicate w ones) ws ≡ ws
+  meet-ones =
+      same-exact (words-meet (words-replicate w ones (lit< tt)) ws) h .1
+      (λ i l. member-meet (replicate w ones) ws i ∙ ap (λ (t : Bool). t && member ws i) (member-ones w i (omega arith)))
+
 -- ---- a common member
 -- the word that has one
 word-common : (xs ys : List ℕ) → common xs ys ≡ true → (k : ℕ) × (k < length xs) × (bitAnd (getD xs k 0) (getD ys k 0) ≡ 0 → ⊥)

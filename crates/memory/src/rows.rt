@@ -69,6 +69,15 @@ pub fn join_from(s: &mut [u64], y: Layout, d: usize, t: &[u64], k: usize)
     bitset::join(s, y.scratch_start(d), t, y.sets_start(k), w);
 }
 
+// Row d of scratch becomes row k of the sets buffer.
+pub fn take(s: &mut [u64], y: Layout, d: usize, t: &[u64], k: usize)
+    requires { ⌜ Room y (length (now s)) × Row y d × SetsRoom y (length (now t)) × SetsRow y k ⌝ }
+    ensures { λ _. ⌜ scratch y (now (s .exit)) ≡ storeCell (scratch y (now (s .entry))) d (cell (sets y (now (t .entry))) k) ⌝ }
+{
+    let w = y.words;
+    bitset::copy(s, y.scratch_start(d), t, y.sets_start(k), w);
+}
+
 // Row k of the sets buffer becomes row d of scratch.
 pub fn store(t: &mut [u64], y: Layout, k: usize, s: &[u64], d: usize)
     requires { ⌜ SetsRoom y (length (now t)) × SetsRow y k × Room y (length (now s)) × Row y d ⌝ }

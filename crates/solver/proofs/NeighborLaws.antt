@@ -12,7 +12,7 @@ use Rattle.memory.specs.declared.layout.Layout.{Layout}
 use Rattle.memory.proofs.CellLaws.{cell-store-other}
 use Rattle.solver.specs.declared.direction.Side.{Side}
 use Rattle.solver.specs.declared.direction.Side.the-variants.{Successors, Predecessors}
-use Rattle.solver.specs.Neighbors.{countOf, firstOf, nextOf, endOf, edgesFrom, neighborsFrom, neighbors, Connected}
+use Rattle.solver.specs.Neighbors.{countOf, firstOf, nextOf, endOf, edgesFrom, neighborsFrom, neighbors, Behind, Connected}
 
 -- ---- the cells of edges are the same
 pub record SameEdges (m m′ : Mem) : Type 0 where
@@ -89,6 +89,14 @@ module _ {m m′ : Mem} (s : SameEdges m m′) where
       ends-kept side (countOf side m′ b) (firstOf side m′ b)
       ∙ ap₂ (neighborsFrom side m) (count-kept side b) (first-kept side b)
 
+  -- the edges behind an edge, and where they lead
+  pub behind-kept : {y : Layout} {side : Side} {n e : ℕ} → Behind y side m n e → Behind y side m′ n e
+  behind-kept {side = side} {n} {e} w = record {
+    edge = w .edge;
+    edges = rw (edges-kept side n (nextOf side m′ e), next-kept side e) (w .edges);
+    ends = rw (ends-kept side n (nextOf side m′ e), next-kept side e) (w .ends);
+  }
+
   -- and that each leads to a block
   pub connected-kept : (y : Layout) → Connected y m → Connected y m′
   connected-kept y c = record {
@@ -146,3 +154,15 @@ module _ {y : Layout} {side : Side} {m : Mem} {n k e : ℕ} (h : k < n) (w : Wal
   -- and the walk goes on behind it
   pub walk-more : {e′ : ℕ} → e′ ≡ nextOf side m e → Walk y side m n (k + 1) e′
   walk-more q = record { edges = rw q (next-edges .1); ends = rw q (next-ends .1) }
+
+-- before the edges behind an edge
+pub walk-behind : {y : Layout} {side : Side} {m : Mem} {n e : ℕ} → Behind y side m n e → Walk y side m n 0 (nextOf side m e)
+walk-behind {n = n} w =
+    let z : n - 0 ≡ n = omega arith in
+    record { edges = rw z (w .edges); ends = rw z (w .ends) }
+
+-- and behind the first edge
+pub behind-first : {y : Layout} {side : Side} {m : Mem} {n e : ℕ} → 0 < n → Walk y side m n 0 e → Behind y side m (n - 1) e
+behind-first h w =
+    let v = walk-more h w refl in
+    record { edge = walk-edge h w; edges = v .edges; ends = v .ends }

@@ -16,10 +16,10 @@ use Rattle.memory.proofs.CellLaws.{cell-store-same, cell-store-other, word-cell
 use Rattle.solver.specs.declared.direction.Direction.{Direction}
 use Rattle.solver.specs.declared.direction.Direction.the-variants.{Initialization, Liveness}
 use Rattle.solver.specs.declared.direction.Side.{Side}
-use Rattle.solver.specs.Neighbors.{readsOf, countOf, firstOf, nextOf, endOf, neighborsFrom, neighbors, Connected}
+use Rattle.solver.specs.Neighbors.{readsOf, countOf, firstOf, nextOf, endOf, neighborsFrom, neighbors, Behind, Connected}
 use Rattle.solver.specs.Transfer.{runningRow, keptRow, entryOf, gatherOne, gatherAll, gathered, transferred, computed}
-use Rattle.solver.proofs.NeighborLaws.{SameEdges, same-stored, end-kept, next-kept, neighbors-kept, connected-kept}
-use Rattle.solver.proofs.NeighborLaws.{ends-more, ends-over, Walk, walk-end, walk-more}
+use Rattle.solver.proofs.NeighborLaws.{SameEdges, same-stored, end-kept, next-kept, ends-kept, behind-kept}
+use Rattle.solver.proofs.NeighborLaws.{ends-more, ends-over, Walk, walk-none, walk-edge, walk-end, walk-more, walk-behind, behind-first}
 
 -- ---- where the rows are
 
@@ -103,39 +103,49 @@ transferred-kept Initialization y m x b z h = rw (row-other Initialization y m x
 transferred-kept Liveness y m x b z h =
     rw (row-other Liveness y m x (definesRow b) (omega arith), row-other Liveness y m x (usesRow b) (omega arith)) refl
 
--- ---- the loop over the neighbors: k of n are gathered, e is the next edge, and the words are m₁
+-- ---- the loop over the neighbors behind edge e₀: k of n are gathered, e is the edge last passed, and the words are m₁
 module _ (d : Direction) (y : Layout) (m t : Mem) (side : Side) (n e₀ : ℕ) where
   pub record Gathering (k e : ℕ) (m₁ : Mem) : Type 0 where
     pub same : m₁ ≡ storeCell m (runningRow d y) (cell m₁ (runningRow d y))
-    pub rest : gatherAll d m t (neighborsFrom side m (n - k) e) (cell m₁ (runningRow d y))
-        ≡ gatherAll d m t (neighborsFrom side m n e₀) (cell m (runningRow d y))
-    pub walk : Walk y side m n k e
+    pub rest : gatherAll d m t (neighborsFrom side m (n - k) (nextOf side m e)) (cell m₁ (runningRow d y))
+        ≡ gatherAll d m t (neighborsFrom side m n (nextOf side m e₀)) (cell m (runningRow d y))
+    pub edge : e < 2 * y .blocks
+    pub walk : Walk y side m n k (nextOf side m e)
 
 module _ {d : Direction} {y : Layout} {m t : Mem} {side : Side} {n e₀ : ℕ} where
-  -- before the first neighbor
-  pub gathering-none : Walk y side m n 0 e₀ → Gathering d y m t side n e₀ 0 e₀ m
+  -- before the first of them
+  pub gathering-none : Behind y side m n e₀ → Gathering d y m t side n e₀ 0 e₀ m
   gathering-none w =
       let z : n - 0 ≡ n = omega arith in
-      record { same = sym (set-getD m (runningRow d y) []); rest = rw z refl; walk = w }
+      record { same = sym (set-getD m (runningRow d y) []); rest = rw z refl; edge = w .edge; walk = walk-behind w }
 
   module _ {k e : ℕ} {m₁ : Mem} (g : Gathering d y m t side n e₀ k e m₁) where
     -- the edges are as they were
     pub gathering-edges : SameEdges m m₁
     gathering-edges = subst (SameEdges m) (sym (g .same)) (row-edges d y m (cell m₁ (runningRow d y)))
 
-    -- the block at the other end is one
-    pub gathering-from : k < n → {p : ℕ} → p ≡ endOf side m₁ e → p < y .blocks
-    gathering-from h q = rw (q ∙ end-kept gathering-edges side e) (walk-end h (g .walk))
+    -- the edge behind has its words
+    pub gathering-edge : k < n → {e′ : ℕ} → e′ ≡ nextOf side m₁ e → e′ < 2 * y .blocks
+    gathering-edge h q = rw (q ∙ next-kept gathering-edges side e) (walk-edge h (g .walk))
 
-    -- its row is gathered, and the edge behind is the next
-    pub gathering-more : runningRow d y < length m → k < n → {p e′ : ℕ} {m₂ : Mem} → p ≡ endOf side m₁ e
-        → m₂ ≡ storeCell m₁ (runningRow d y) (gatherOne d m₁ t p (cell m₁ (runningRow d y))) → e′ ≡ nextOf side m₂ e
+    -- the block at its other end, as the words had it
+    gathering-end : {e′ p : ℕ} → e′ ≡ nextOf side m₁ e → p ≡ endOf side m₁ e′ → p ≡ endOf side m (nextOf side m e)
+    gathering-end {e′} q r = r ∙ end-kept gathering-edges side e′ ∙ ap (endOf side m) (q ∙ next-kept gathering-edges side e)
+
+    -- is one
+    pub gathering-from : k < n → {e′ p : ℕ} → e′ ≡ nextOf side m₁ e → p ≡ endOf side m₁ e′ → p < y .blocks
+    gathering-from h q r = rw (gathering-end q r) (walk-end h (g .walk))
+
+    -- its row is gathered
+    pub gathering-more : runningRow d y < length m → k < n → {e′ p : ℕ} {m₂ : Mem} → e′ ≡ nextOf side m₁ e → p ≡ endOf side m₁ e′
+        → m₂ ≡ storeCell m₁ (runningRow d y) (gatherOne d m₁ t p (cell m₁ (runningRow d y)))
         → Gathering d y m t side n e₀ (k + 1) e′ m₂
     unfolding gatherAll
-    gathering-more lt h {p} {e′} {m₂} ep e₂ ee = record {
+    gathering-more lt h {e′} {p} {m₂} ee ep e₂ = record {
       same = whole ∙ ap (storeCell m (runningRow d y)) (sym here);
-      rest = ap (gatherAll d m t (neighborsFrom side m (n - (k + 1)) e′)) here ∙ next;
-      walk = walk-more h (g .walk) then;
+      rest = ap (gatherAll d m t (neighborsFrom side m (n - (k + 1)) (nextOf side m e′))) here ∙ next;
+      edge = gathering-edge h ee;
+      walk = walk-more h (g .walk) (ap (nextOf side m) then);
     }
       where
         x : List ℕ
@@ -156,46 +166,77 @@ module _ {d : Direction} {y : Layout} {m t : Mem} {side : Side} {n e₀ : ℕ} w
         here = ap (λ (w : Mem). cell w (runningRow d y)) whole ∙ cell-store-same m (runningRow d y) z lt
 
         then : e′ ≡ nextOf side m e
-        then = ee ∙ next-kept (subst (SameEdges m) (sym whole) (row-edges d y m z)) side e
+        then = ee ∙ next-kept gathering-edges side e
 
-        at : endOf side m e ≡ p
-        at = sym (ep ∙ end-kept gathering-edges side e)
-
-        next : gatherAll d m t (neighborsFrom side m (n - (k + 1)) e′) z
-            ≡ gatherAll d m t (neighborsFrom side m n e₀) (cell m (runningRow d y))
+        next : gatherAll d m t (neighborsFrom side m (n - (k + 1)) (nextOf side m e′)) z
+            ≡ gatherAll d m t (neighborsFrom side m n (nextOf side m e₀)) (cell m (runningRow d y))
         next =
-            ap₂ (λ (q a : ℕ). gatherAll d m t (neighborsFrom side m (n - (k + 1)) q) (gatherOne d m t a x)) then (sym at)
-            ∙ sym (ap (λ (l : List ℕ). gatherAll d m t l x) (ends-more side m n k e h)) ∙ g .rest
+            ap₂ (λ (q a : ℕ). gatherAll d m t (neighborsFrom side m (n - (k + 1)) (nextOf side m q)) (gatherOne d m t a x)) then
+            (gathering-end ee ep)
+            ∙ sym (ap (λ (l : List ℕ). gatherAll d m t l x) (ends-more side m n k (nextOf side m e) h)) ∙ g .rest
 
     -- no edge is left
-    pub gathering-all : n ≤ k → (b : ℕ) → n ≡ countOf side m b → e₀ ≡ firstOf side m b → side ≡ readsOf d
-        → m₁ ≡ storeCell m (runningRow d y) (gatherAll d m t (neighbors (readsOf d) m b) (cell m (runningRow d y)))
+    pub gathering-all : n ≤ k → side ≡ readsOf d
+        → m₁ ≡ storeCell m (runningRow d y) (gatherAll d m t (neighborsFrom (readsOf d) m n (nextOf (readsOf d) m e₀)) (cell m (runningRow d y)))
     unfolding gatherAll
-    gathering-all h b en ee es =
+    gathering-all h es =
         g .same ∙ ap (storeCell m (runningRow d y))
-        (sym (ap (λ (l : List ℕ). gatherAll d m t l (cell m₁ (runningRow d y))) (ends-over side m n k e h)) ∙ g .rest
-        ∙ ap (λ (l : List ℕ). gatherAll d m t l (cell m (runningRow d y)))
-        (ap₂ (neighborsFrom side m) en ee ∙ ap (λ (a : Side). neighbors a m b) es))
+        (sym (ap (λ (l : List ℕ). gatherAll d m t l (cell m₁ (runningRow d y))) (ends-over side m n k (nextOf side m e) h)) ∙ g .rest
+        ∙ ap (λ (a : Side). gatherAll d m t (neighborsFrom a m n (nextOf a m e₀)) (cell m (runningRow d y))) es)
 
 -- ---- one function after the other, all on the running row
 module _ (d : Direction) (y : Layout) (m t : Mem) (b : ℕ) (lt : runningRow d y < length m) where
-  -- the row begins as x, then the neighbors are gathered
-  gathered-from : {m₁ m₂ : Mem} (x : List ℕ) → m₁ ≡ storeCell m (runningRow d y) x
-      → m₂ ≡ storeCell m₁ (runningRow d y) (gatherAll d m₁ t (neighbors (readsOf d) m₁ b) (cell m₁ (runningRow d y)))
-      → m₂ ≡ storeCell m (runningRow d y) (gatherAll d m t (neighbors (readsOf d) m b) x)
-  gathered-from x e₁ e₂ =
-      e₂ ∙ ap (λ (w : Mem). storeCell w (runningRow d y) (gatherAll d w t (neighbors (readsOf d) w b) (cell w (runningRow d y)))) e₁
+  -- the row begins as x, then a neighbor's is gathered
+  pub gathers-one : (p : ℕ) (x : List ℕ) {m₁ m₂ : Mem} → m₁ ≡ storeCell m (runningRow d y) x
+      → m₂ ≡ storeCell m₁ (runningRow d y) (gatherOne d m₁ t p (cell m₁ (runningRow d y)))
+      → m₂ ≡ storeCell m (runningRow d y) (gatherOne d m t p x)
+  gathers-one p x e₁ e₂ =
+      e₂ ∙ ap (λ (w : Mem). storeCell w (runningRow d y) (gatherOne d w t p (cell w (runningRow d y)))) e₁
       ∙ set-set m (runningRow d y) x _
       ∙ ap (storeCell m (runningRow d y))
-      (gather-all-kept d y m t x _ _
-      ∙ ap₂ (gatherAll d m t) (neighbors-kept (row-edges d y m x) (readsOf d) b) (cell-store-same m (runningRow d y) x lt))
+      (gather-one-kept d y m t x p _ ∙ ap (gatherOne d m t p) (cell-store-same m (runningRow d y) x lt))
 
-  -- it begins as the block does
-  pub gathers : {m₁ m₂ : Mem} → m₁ ≡ storeCell m (runningRow d y) (entryOf d y m b)
-      → m₂ ≡ storeCell m₁ (runningRow d y) (gatherAll d m₁ t (neighbors (readsOf d) m₁ b) (cell m₁ (runningRow d y)))
-      → m₂ ≡ storeCell m (runningRow d y) (gathered d y m t b)
-  unfolding gathered
-  gathers e₁ e₂ = gathered-from (entryOf d y m b) e₁ e₂
+  -- a block without neighbors: the row is as it begins
+  pub gathers-none : {n : ℕ} {m₁ : Mem} → n ≡ countOf (readsOf d) m b → n ≡ 0 → m₁ ≡ storeCell m (runningRow d y) (entryOf d y m b)
+      → m₁ ≡ storeCell m (runningRow d y) (gathered d y m t b)
+  unfolding gathered gatherAll
+  gathers-none {n} en z e₁ =
+      let none : neighbors (readsOf d) m b ≡ [] =
+      ap (λ (c : ℕ). neighborsFrom (readsOf d) m c (firstOf (readsOf d) m b)) (sym en ∙ z) ∙ ends-over (readsOf d) m 0 0 (firstOf (readsOf d) m b) (omega arith) in
+      e₁ ∙ ap (λ (l : List ℕ). storeCell m (runningRow d y) (gatherAll d m t l (entryOf d y m b))) (sym none)
+
+  module _ {n e : ℕ} (en : n ≡ countOf (readsOf d) m b) (ne : n ≡ 0 → ⊥) (ee : e ≡ firstOf (readsOf d) m b) where
+    some : 0 < n
+    some = omega arith
+
+    -- the first neighbor and those behind it are all
+    gathers-first : gatherAll d m t (neighborsFrom (readsOf d) m (n - 1) (nextOf (readsOf d) m e)) (gatherOne d m t (endOf (readsOf d) m e) (entryOf d y m b))
+        ≡ gathered d y m t b
+    unfolding gathered gatherAll
+    gathers-first =
+        let z : n - 0 ≡ n = omega arith in
+        sym (ap (λ (l : List ℕ). gatherAll d m t l (entryOf d y m b))
+        (ap₂ (neighborsFrom (readsOf d) m) (sym en ∙ sym z) (sym ee) ∙ ends-more (readsOf d) m n 0 e some))
+
+    -- it begins with the first neighbor, then the others are gathered
+    pub gathers : {p : ℕ} {m₁ m₂ : Mem} → p ≡ endOf (readsOf d) m e
+        → m₁ ≡ storeCell m (runningRow d y) (gatherOne d m t p (entryOf d y m b))
+        → m₂ ≡ storeCell m₁ (runningRow d y)
+        (gatherAll d m₁ t (neighborsFrom (readsOf d) m₁ (n - 1) (nextOf (readsOf d) m₁ e)) (cell m₁ (runningRow d y)))
+        → m₂ ≡ storeCell m (runningRow d y) (gathered d y m t b)
+    gathers {p} ep e₁ e₂ =
+        let x : List ℕ = gatherOne d m t p (entryOf d y m b) in
+        e₂
+        ∙ ap (λ (w : Mem). storeCell w (runningRow d y)
+        (gatherAll d w t (neighborsFrom (readsOf d) w (n - 1) (nextOf (readsOf d) w e)) (cell w (runningRow d y)))) e₁
+        ∙ set-set m (runningRow d y) x _
+        ∙ ap (storeCell m (runningRow d y))
+        (gather-all-kept d y m t x _ _
+        ∙ ap₂ (gatherAll d m t)
+        (ends-kept (row-edges d y m x) (readsOf d) (n - 1) _
+        ∙ ap (neighborsFrom (readsOf d) m (n - 1)) (next-kept (row-edges d y m x) (readsOf d) e))
+        (cell-store-same m (runningRow d y) x lt ∙ ap (λ (q : ℕ). gatherOne d m t q (entryOf d y m b)) ep)
+        ∙ gathers-first)
 
   -- it is gathered, then goes through the block
   pub computes : {m₁ m₂ : Mem} → b < y .blocks → m₁ ≡ storeCell m (runningRow d y) (gathered d y m t b)
@@ -209,7 +250,24 @@ module _ (d : Direction) (y : Layout) (m t : Mem) (b : ℕ) (lt : runningRow d y
       ∙ ap (storeCell m (runningRow d y))
       (transferred-kept d y m x b _ h ∙ ap (transferred d m b) (cell-store-same m (runningRow d y) x lt))
 
--- the edges of a block are still there after its row has begun
-pub begun-connected : (d : Direction) (y : Layout) (m : Mem) {m₁ : Mem} (x : List ℕ) → m₁ ≡ storeCell m (runningRow d y) x → Connected y m
-    → Connected y m₁
-begun-connected d y m x e c = subst (Connected y) (sym e) (connected-kept (row-edges d y m x) y c)
+-- ---- the first edge of a block that has one, and those behind it
+module _ (d : Direction) {y : Layout} {m : Mem} (b : ℕ) (h : b < y .blocks) (c : Connected y m) where
+  module _ {n e : ℕ} (en : n ≡ countOf (readsOf d) m b) (ne : n ≡ 0 → ⊥) (ee : e ≡ firstOf (readsOf d) m b) where
+    has-first : 0 < n
+    has-first = omega arith
+
+    walk-first : Walk y (readsOf d) m n 0 e
+    walk-first = walk-none (readsOf d) b h en ee c
+
+    -- it has its words
+    pub first-edge : e < 2 * y .blocks
+    first-edge = walk-edge has-first walk-first
+
+    -- it leads to a block
+    pub first-end : {p : ℕ} → p ≡ endOf (readsOf d) m e → p < y .blocks
+    first-end q = rw q (walk-end has-first walk-first)
+
+    -- those behind it are still there after the row has begun
+    pub first-behind : {m₁ : Mem} (x : List ℕ) → m₁ ≡ storeCell m (runningRow d y) x → Behind y (readsOf d) m₁ (n - 1) e
+    first-behind x e₁ =
+        subst (λ (w : Mem). Behind y (readsOf d) w (n - 1) e) (sym e₁) (behind-kept (row-edges d y m x) (behind-first has-first walk-first))

@@ -52,6 +52,12 @@ neighborsFrom side m n e = map (endOf side m) (edgesFrom side m n e)
 abbrev pub neighbors : Side → Mem → ℕ → List ℕ
 neighbors side m b = neighborsFrom side m (countOf side m b) (firstOf side m b)
 
+-- edge e has its words, and so have the n edges behind it, which lead to blocks
+pub record Behind (y : Layout) (side : Side) (m : Mem) (n e : ℕ) : Type 0 where
+  pub edge : e < 2 * y .blocks
+  pub edges : AllBelow (2 * y .blocks) (edgesFrom side m n (nextOf side m e))
+  pub ends : AllBelow (y .blocks) (neighborsFrom side m n (nextOf side m e))
+
 -- each edge has its words, and leads to a block
 pub record Connected (y : Layout) (m : Mem) : Type 0 where
   pub edges : (side : Side) (b : ℕ) → b < y .blocks → AllBelow (2 * y .blocks) (edgesFrom side m (countOf side m b) (firstOf side m b))

@@ -6,12 +6,13 @@ use memory::layout;
 use memory::layout::Layout;
 ghost use mathlib.Core.Path.{_≡_};
 ghost use Prim.Native.Nat.{_<_, _≤_};
-ghost use lib.ListN.{length};
+ghost use lib.ListN.{length, replicate};
+ghost use Rattle.bitset.specs.Sets.{ones};
 ghost use Rattle.memory.specs.Cells.{cell, storeCell};
 ghost use Rattle.memory.specs.Scratch.{scratch, Room};
 ghost use Rattle.memory.specs.Sets.{sets, SetsRoom};
 ghost use Rattle.solver.specs.declared.direction.Direction.the-variants.{Initialization, Liveness};
-ghost use Rattle.solver.specs.Neighbors.{readsOf, neighbors, Connected};
+ghost use Rattle.solver.specs.Neighbors.{readsOf, nextOf, neighborsFrom, Behind, Connected};
 ghost use Rattle.solver.specs.Transfer.{runningRow, keptRow, entryOf, gatherOne, gatherAll, gathered, transferred, computed};
 
 // The cell of the running row.
@@ -80,19 +81,54 @@ fn meet_one(s: &mut [u64], t: &[u64], y: Layout, block: usize)
     }
 }
 
-// Of each neighbor on the side that a visit reads.
-fn gather_all(s: &mut [u64], t: &[u64], y: Layout, d: Direction, block: usize)
-    requires { ⌜ Room y (length (now s)) × SetsRoom y (length (now t)) × (block < y .blocks) × Connected y (scratch y (now s)) ⌝ }
-    ensures { λ _. ⌜ scratch y (now (s .exit)) ≡ storeCell (scratch y (now (s .entry))) (runningRow d y) (gatherAll d (scratch y (now (s .entry))) (sets y (now (t .entry))) (neighbors (readsOf d) (scratch y (now (s .entry))) block) (cell (scratch y (now (s .entry))) (runningRow d y))) ⌝ }
+// The running row becomes what a block begins with and takes in what its first neighbor keeps.
+fn begin_with(s: &mut [u64], t: &[u64], y: Layout, d: Direction, block: usize, from: usize)
+    requires { ⌜ Room y (length (now s)) × SetsRoom y (length (now t)) × (from < y .blocks) ⌝ }
+    ensures { λ _. ⌜ scratch y (now (s .exit)) ≡ storeCell (scratch y (now (s .entry))) (runningRow d y) (gatherOne d (scratch y (now (s .entry))) (sets y (now (t .entry))) from (entryOf d y (scratch y (now (s .entry))) block)) ⌝ }
+{
+    match d {
+        Direction::Initialization => begin_met(s, t, y, block, from),
+        Direction::Liveness => memory::rows::take(s, y, y.live_state(), t, y.live(from)),
+    }
+}
+
+// Only at block 0 is there more to meet than all slots.
+fn begin_met(s: &mut [u64], t: &[u64], y: Layout, block: usize, from: usize)
+    requires { ⌜ Room y (length (now s)) × SetsRoom y (length (now t)) × (from < y .blocks) ⌝ }
+    ensures { λ _. ⌜ scratch y (now (s .exit)) ≡ storeCell (scratch y (now (s .entry))) (runningRow Initialization y) (gatherOne Initialization (scratch y (now (s .entry))) (sets y (now (t .entry))) from (entryOf Initialization y (scratch y (now (s .entry))) block)) ⌝ }
+{
+    if block != 0 {
+        begin_all(s, t, y, from);
+        return;
+    }
+    begin_initialized(s, y, block);
+    meet_one(s, t, y, from);
+}
+
+// All slots, met with what is initialized at the exit of a predecessor that is reachable.
+fn begin_all(s: &mut [u64], t: &[u64], y: Layout, block: usize)
+    requires { ⌜ Room y (length (now s)) × SetsRoom y (length (now t)) × (block < y .blocks) ⌝ }
+    ensures { λ _. ⌜ scratch y (now (s .exit)) ≡ storeCell (scratch y (now (s .entry))) (runningRow Initialization y) (gatherOne Initialization (scratch y (now (s .entry))) (sets y (now (t .entry))) block (replicate (y .words) ones)) ⌝ }
+{
+    if memory::scratch::get(s, y, layout::REACHABLE, block) == 0 {
+        memory::rows::fill(s, y, y.state(), 18446744073709551615);
+        return;
+    }
+    memory::rows::take(s, y, y.state(), t, y.initialized(block));
+}
+
+// It takes in what the neighbors at the n edges behind an edge keep.
+fn gather_rest(s: &mut [u64], t: &[u64], y: Layout, d: Direction, first: usize, n: usize)
+    requires { ⌜ Room y (length (now s)) × SetsRoom y (length (now t)) × Behind y (readsOf d) (scratch y (now s)) n first ⌝ }
+    ensures { λ _. ⌜ scratch y (now (s .exit)) ≡ storeCell (scratch y (now (s .entry))) (runningRow d y) (gatherAll d (scratch y (now (s .entry))) (sets y (now (t .entry))) (neighborsFrom (readsOf d) (scratch y (now (s .entry))) n (nextOf (readsOf d) (scratch y (now (s .entry))) first)) (cell (scratch y (now (s .entry))) (runningRow d y))) ⌝ }
 {
     let side = d.reads();
-    let n = neighbors::count(s, y, side, block) as usize;
-    let mut edge = neighbors::first(s, y, side, block) as usize;
+    let mut edge = first;
     let mut k = 0;
     while k < n {
+        edge = neighbors::next(s, y, side, edge) as usize;
         let from = neighbors::end(s, y, side, edge) as usize;
         gather_one(s, t, y, d, from);
-        edge = neighbors::next(s, y, side, edge) as usize;
         k += 1;
     }
 }
@@ -102,8 +138,16 @@ pub fn gather(s: &mut [u64], t: &[u64], y: Layout, d: Direction, block: usize)
     requires { ⌜ Room y (length (now s)) × SetsRoom y (length (now t)) × (block < y .blocks) × Connected y (scratch y (now s)) ⌝ }
     ensures { λ _. ⌜ scratch y (now (s .exit)) ≡ storeCell (scratch y (now (s .entry))) (runningRow d y) (gathered d y (scratch y (now (s .entry))) (sets y (now (t .entry))) block) ⌝ }
 {
-    begin(s, y, d, block);
-    gather_all(s, t, y, d, block);
+    let side = d.reads();
+    let n = neighbors::count(s, y, side, block) as usize;
+    if n == 0 {
+        begin(s, y, d, block);
+        return;
+    }
+    let edge = neighbors::first(s, y, side, block) as usize;
+    let from = neighbors::end(s, y, side, edge) as usize;
+    begin_with(s, t, y, d, block, from);
+    gather_rest(s, t, y, d, edge, n - 1);
 }
 
 // The running row goes through the block.

@@ -62,17 +62,20 @@ loop-less c = search needs
 
 loop-again : tie.Need-loop-again Inv-loop μ-loop
 loop-again c =
+    let l = c .before .before .before .before .loop in
     let a = c .before .before .before .before .before .args in
     let p = c .before .before .before .before .before .pre in
-    stored-replaced (now (a .words)) (a .d) (a .i) (a .j) (a .w) (p .0) (p .3) (p .4) (c .before .before .before .before .loop .inv) (omega arith)
+    stored-replaced (now (a .words)) (a .d) (a .i) (a .j) (a .w) (p .0) (p .3) (p .4) (l .inv) (omega arith)
 
 same-length : tie.Need-same-length Inv-loop μ-loop
 same-length c = search needs
 
 returns : tie.Need-returns Inv-loop μ-loop
 returns c =
+    let p = c .before .before .pre in
+    let l = c .before .loop in
     let a = c .before .before .args in
-    stored-all (made-replaced (now (a .words)) (a .d) (a .i) (a .j) (a .w) (c .before .before .pre .0)) (c .before .loop .inv) (omega arith)
+    stored-all (made-replaced (now (a .words)) (a .d) (a .i) (a .j) (a .w) (p .0)) (l .inv) (omega arith)
 
 pub replace-within-spec : {M : Type 1} → statement M
 replace-within-spec =

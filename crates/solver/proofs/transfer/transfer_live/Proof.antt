@@ -22,7 +22,11 @@ same-length c = search needs
 returns : tie.Need-returns
 unfolding transferred
 returns c =
-    rw (c .before .before .before .live-state .ensures, c .before .before .before .before .before .before .defines .ensures, c .before .before .before .before .before .uses .ensures) at (c .before .before .replace .ensures)
+    let live-state = c .before .before .before .live-state in
+    let defines = c .before .before .before .before .before .before .defines in
+    let uses = c .before .before .before .before .before .uses in
+    let replace = c .before .before .replace in
+    rw (live-state .ensures, defines .ensures, uses .ensures) at (replace .ensures)
 
 pub transfer-live-spec : {M : Type 1} → statement M
 transfer-live-spec =
