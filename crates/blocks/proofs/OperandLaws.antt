@@ -24,6 +24,7 @@ use Rattle.operands.proofs.InstructionLaws.{view-count}
 use Rattle.operands.proofs.PlaceLaws.{gathered-append}
 use Rattle.instructions.specs.Sets.{AllBelow}
 use Rattle.script.specs.Script.{listOf}
+use Rattle.leaders.proofs.MarkLaws.{nth-there}
 
 -- ---- at most two targets
 
@@ -101,12 +102,6 @@ pub inputs-few : (s : List ℕ) (i : Instruction) → Readable s i → length (i
 inputs-few s i r = omega (arith, view-count s i r, places-few S Sopt (i .pattern .kind) 0 4 (valuesOf s i))
 
 -- ---- the slot that is read
-
-nth-there : (l : List ℕ) (k : ℕ) → k < length l → nth l k ≡ values.Is (getD l k 0)
-unfolding nth
-nth-there [] k h = absurd (omega arith)
-nth-there (x ∷ l) zero h = refl
-nth-there (x ∷ l) (suc k) h = nth-there l k (omega arith)
 
 -- the k-th input, as it is read
 module _ (o : SlotOperand) (l : List ℕ) (k : ℕ) (e : slotIn o ≡ nth l k) (h : k < length l) where

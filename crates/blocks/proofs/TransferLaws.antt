@@ -2,11 +2,12 @@
 use mathlib.Core.Logic.{_≢_}
 use mathlib.Core.Path.{_≡_, refl, sym, ap, ap₂, _∙_}
 use mathlib.Core.List.{List, [], _∷_, _++_, map}
-use Prim.Native.Nat.{ℕ, zero, suc, _+_, _*_, _-_, _≤_, _<_}
+use Prim.Native.Nat.{ℕ, suc, _+_, _*_, _-_, _≤_, _<_}
 use native.Mathlib.Decide.{ℕ-discrete}
 use native.Mathlib.Omega.{arith}
 use lib.ListN.{length, getD, length-set}
 use Rattle.dataflow.specs.Lists.{range}
+use Rattle.dataflow.proofs.Lists.{range-append}
 use Rattle.dataflow.specs.Code.{Instruction, instructionAt}
 use Rattle.memory.specs.Cells.{Mem, cell, word, store, storeCell}
 use Rattle.memory.specs.Names.{offsetCell, costCell, usesRow, definesRow}
@@ -49,17 +50,6 @@ range-more start i h =
     let e : i + 1 - start ≡ suc (i - start) = omega arith in
     let f : start + (i - start) ≡ i = omega arith in
     ap (range start) e ∙ range-snoc start (i - start) ∙ ap (λ (k : ℕ). range start (i - start) ++ (k ∷ [])) f
-
--- the numbers from k on, in two parts
-range-append : (k m n : ℕ) → range k (m + n) ≡ range k m ++ range (k + m) n
-range-append k zero n =
-    let e : 0 + n ≡ n = omega arith in
-    let f : k + 0 ≡ k = omega arith in
-    rw (e, f) refl
-range-append k (suc m) n =
-    let e : suc m + n ≡ suc (m + n) = omega arith in
-    let f : k + suc m ≡ suc k + m = omega arith in
-    rw (e, f) (ap (λ (l : List ℕ). k ∷ l) (range-append (suc k) m n))
 
 -- those from start to end, of which i is one
 pub range-at : (start i end : ℕ) → start ≤ i → i < end

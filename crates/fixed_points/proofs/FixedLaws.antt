@@ -30,7 +30,7 @@ use Rattle.order.specs.Postorder.{searchedFrom, searchCharges, chargedIn, Searc
 use Rattle.solver.specs.declared.direction.Direction.{Direction}
 use Rattle.solver.specs.declared.direction.Direction.the-variants.{Initialization, Liveness}
 use Rattle.propagate.specs.Rounds.{Seedable, Propagated}
-use Rattle.propagate.proofs.Fixed.{running-at}
+use Rattle.solver.proofs.TransferLaws.{running-at}
 use Rattle.edges.specs.Flow.{Flows}
 use Rattle.fixed_points.specs.FixedPoints.{roundsCharges, Fixed}
 use Rattle.fixed_points.specs.Stages.{Flowing, InOrder, Ready, RoundsDone}

@@ -23,6 +23,7 @@ use Rattle.propagate.specs.Rounds.{Seedable}
 use Rattle.edges.specs.Flow.{Flows}
 use Rattle.fixed_points.specs.FixedPoints.{Scripted}
 use Rattle.fixed_points.specs.Stages.{InOrder}
+use Rattle.solver.proofs.RingLaws.{sum-few}
 use Rattle.fixed_points.proofs.CodeGraph.{some-block, connected, flags-few}
 
 -- ---- how many marks there are
@@ -32,11 +33,6 @@ sum-clear : (l : List ℕ) (i : ℕ) → sum (set l i 0) + getD l i 0 ≡ sum l
 sum-clear [] i = omega arith
 sum-clear (x ∷ l) zero = omega arith
 sum-clear (x ∷ l) (suc i) = omega (arith, sum-clear l i)
-
--- words that are 0 or 1 sum to no more than there are
-sum-few : (l : List ℕ) → ((i : ℕ) → getD l i 0 ≤ 1) → sum l ≤ length l
-sum-few [] h = omega arith
-sum-few (x ∷ l) h = omega (arith, h 0, sum-few l (λ i. h (suc i)))
 
 -- places that are marked, each once, are no more than the marks
 pub places-few : (l ws : List ℕ) → NoDup l → ((c : ℕ) → List·Memᴰ c l → 1 ≤ getD ws c 0) → length l ≤ sum ws

@@ -1,11 +1,11 @@
 -- The blocks that the marks give are the blocks of the code. Assumes nothing.
 use mathlib.Core.Path.{_≡_, refl, sym, ap, ap₂, _∙_}
 use mathlib.Core.Bool.{Bool, true, false, not}
-use mathlib.Core.List.{List, [], _∷_, map}
+use mathlib.Core.List.{List, _∷_}
 use Prim.Native.Nat.{ℕ, zero, suc, _+_, _≤_, _<_}
 use native.Mathlib.Omega.{arith}
 use lib.Dec.{eqb}
-use lib.ListN.{length}
+use lib.ListN.{length, length-map}
 use Rattle.dataflow.specs.Lists.{pick, range, keep}
 use Rattle.dataflow.specs.Code.{leader, leaders, blocks, headOr}
 use Rattle.dataflow.specs.Results.{blockCount}
@@ -31,10 +31,6 @@ pub unflag : (b : Bool) → not (eqb (flag b) 0) ≡ b
 unflag true = refl
 unflag false = refl
 
-pub length-map : {A B : Type 0} (f : A → B) (l : List A) → length (map f l) ≡ length l
-length-map f [] = refl
-length-map f (x ∷ l) = ap suc (length-map f l)
-
 module _ (s : List ℕ) (x : Script) (h : Sound s x) (m : Mem) (led : Led s x m) where
   -- the marked instructions are the starts of the blocks
   pub starts-are : startsOf (cell m blockOfCell) (x .count) ≡ leaders (flowCode (partsOf s))
@@ -46,4 +42,4 @@ module _ (s : List ℕ) (x : Script) (h : Sound s x) (m : Mem) (led : Led s x m)
 
   -- as many blocks are counted as the code has
   pub blocks-are : (m′ : Mem) (b : ℕ) → Numbered (x .count) m m′ b → b ≡ blockCount (flowCode (partsOf s))
-  blocks-are m′ b g = g .count ∙ ap length starts-are ∙ length-map (headOr 0) (blocks (flowCode (partsOf s)))
+  blocks-are m′ b g = g .count ∙ ap length starts-are ∙ length-map (blocks (flowCode (partsOf s))) (headOr 0)

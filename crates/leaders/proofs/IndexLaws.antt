@@ -1,20 +1,20 @@
 -- The words after the numbering are the index of the script's blocks. Assumes nothing.
-use mathlib.Core.Path.{_≡_, refl, sym, ap, ap₂, subst, _∙_}
+use mathlib.Core.Path.{_≡_, refl, sym, ap, ap₂, _∙_}
 use mathlib.Core.Bool.{Bool, true, false, not}
 use mathlib.Core.List.{List, [], _∷_}
 use Prim.Native.Nat.{ℕ, zero, suc, _+_, _-_, _≤_, _<_}
 use native.Mathlib.Omega.{arith}
 use lib.Dec.{eqb}
-use lib.ListN.{length, getD, take}
+use lib.ListN.{length, getD, length-map}
 use lib.Seq.{getD-take}
 use borrow.Author.Tests.{eq-eqb, ne-eqb}
-use Rattle.dataflow.specs.Lists.{pick, range, keep, tabulate}
+use Rattle.dataflow.specs.Lists.{pick, range, keep}
 use Rattle.dataflow.specs.Code.{leader, leaders, blocks, headOr, indexOf}
 use Rattle.dataflow.specs.Results.{blockCount}
 use Rattle.dataflow.proofs.Leaders.{leaders-are}
-use Rattle.dataflow.proofs.Lists.{getD-tabulate}
+use Rattle.dataflow.proofs.Lists.{getD-tabulate, keep-few, range-length}
 use Rattle.memory.specs.Cells.{Mem, cell, word}
-use Rattle.memory.specs.Names.{blockOfCell, leaderCell, offsetCell, flag}
+use Rattle.memory.specs.Names.{blockOfCell, leaderCell, offsetCell}
 use Rattle.memory.specs.declared.layout.Layout.{Layout}
 use Rattle.memory.specs.Scratch.{scratch}
 use Rattle.memory.proofs.ScratchLaws.{grown}
@@ -23,10 +23,10 @@ use Rattle.sheet.specs.Decode.{partsOf}
 use Rattle.instructions.specs.Sound.{Sound}
 use Rattle.script.specs.Script.{flowCode}
 use Rattle.script.proofs.ScriptLaws.{code-length}
-use Rattle.leaders.specs.Numbers.{marked, startsOf, numbersOf, Numbered}
+use Rattle.leaders.specs.Numbers.{marked, startsOf, Numbered}
 use Rattle.leaders.specs.Leaders.{Led}
 use Rattle.leaders.specs.Index.{Indexed}
-use Rattle.leaders.proofs.BlockLaws.{keep-same, unflag, length-map, starts-are, blocks-are}
+use Rattle.leaders.proofs.BlockLaws.{unflag, starts-are, blocks-are}
 
 -- how many of k, k + 1, .. are kept, with one more
 keep-last : (f : ℕ → Bool) (k n : ℕ) → f (k + n) ≡ true → length (keep f (range k (suc n))) ≡ suc (length (keep f (range k n)))
@@ -77,7 +77,7 @@ module _ (s : List ℕ) (x : Script) (h : Sound s x) (m m′ : Mem) (led : Led s
       → word m′ leaderCell c ≡ getD (leaders (flowCode (partsOf s))) c (length (flowCode (partsOf s)))
   starts-at c lt =
       let lt′ : c < b = omega (arith, blocks-are s x h m led m′ b g) in
-      let long : length (leaders (flowCode (partsOf s))) ≡ blockCount (flowCode (partsOf s)) = length-map (headOr 0) (blocks (flowCode (partsOf s))) in
+      let long : length (leaders (flowCode (partsOf s))) ≡ blockCount (flowCode (partsOf s)) = length-map (blocks (flowCode (partsOf s))) (headOr 0) in
       sym (getD-take b (cell m′ leaderCell) c 0 lt′)
       ∙ ap (λ (l : List ℕ). getD l c 0) (g .starts ∙ starts-are s x h m led)
       ∙ getD-default (leaders (flowCode (partsOf s))) c 0 (length (flowCode (partsOf s))) (omega (arith, long))
@@ -118,19 +118,11 @@ indexed-grown s x y y′ l e g = record {
     at k i h = ap (λ (c : List ℕ). getD c i 0) (sym (grown y y′ l k e h))
 
 -- there are no more blocks than instructions
-keep-few : (f : ℕ → Bool) (k n : ℕ) → length (keep f (range k n)) ≤ n
-keep-few f k zero = omega arith
-keep-few f k (suc n) = go (keep-few f (suc k) n) (f k)
-  where
-    go : length (keep f (range (suc k) n)) ≤ n → (t : Bool) → length (pick t (k ∷ keep f (range (suc k) n)) (keep f (range (suc k) n))) ≤ suc n
-    go h true = omega arith
-    go h false = omega arith
-
 pub few-blocks : (s : List ℕ) (x : Script) → Sound s x → blockCount (flowCode (partsOf s)) ≤ x .count
 few-blocks s x h =
     let code = flowCode (partsOf s) in
-    let e : blockCount code ≡ length (keep (leader code) (range 0 (length code))) = sym (length-map (headOr 0) (blocks code)) ∙ ap length (leaders-are code) in
-    omega (arith, e, keep-few (leader code) 0 (length code), code-length s x h)
+    let e : blockCount code ≡ length (keep (leader code) (range 0 (length code))) = sym (length-map (blocks code) (headOr 0)) ∙ ap length (leaders-are code) in
+    omega (arith, e, keep-few (leader code) (range 0 (length code)), range-length 0 (length code), code-length s x h)
 
 -- instruction 0 is marked
 pub first-marked : (s : List ℕ) (x : Script) (m : Mem) → Sound s x → Led s x m → marked (cell m blockOfCell) 0 ≡ true

@@ -1,8 +1,8 @@
 -- The marks are the leaders. Assumes nothing.
-use mathlib.Core.Logic.{_≢_, _⊎_, inl, inr}
+use mathlib.Core.Logic.{_≢_}
 use mathlib.Core.Path.{_≡_, refl, sym, ap, subst, _∙_}
-use mathlib.Core.Bool.{Bool, true, false, _&&_, _||_, or-false, or-true, true≢false, false≢true}
-use mathlib.Core.List.{List, [], _∷_, List·Memᴰ, List·Memᴰ·not-nil, List·Memᴰ·cases-cons}
+use mathlib.Core.Bool.{Bool, true, false, _&&_, _||_, or-false, or-true, false≢true}
+use mathlib.Core.List.{List, [], _∷_, List·Memᴰ}
 use Prim.Native.Nat.{ℕ, zero, suc, _+_, _≤_, _<_}
 use native.Mathlib.Decide.{ℕ-discrete}
 use native.Mathlib.Numerals.{add-one}
@@ -12,6 +12,7 @@ use lib.ListN.{length, getD, replicate, length-replicate, getD-replicate}
 use borrow.Author.Tests.{eq-eqb, ne-eqb, eqb-true}
 use Rattle.dataflow.specs.Lists.{range, some, elem}
 use Rattle.dataflow.specs.Code.{Instruction, outside, instructionAt, leader}
+use Rattle.dataflow.proofs.Bools.{same-truth}
 use Rattle.dataflow.proofs.Lists.{some-at, some-to, mem-range}
 use Rattle.operands.specs.Kinds.{endsBlock}
 use Rattle.operands.specs.Operands.{targetsOf}
@@ -19,7 +20,6 @@ use Rattle.operands.specs.Instructions.{valuesOf, Readable}
 use Rattle.memory.specs.Cells.{Mem, cell, word, store, storeCell}
 use Rattle.memory.specs.Names.{blockOfCell, flag, offsetCell}
 use Rattle.memory.specs.Scratch.{scratchWidths}
-use Rattle.memory.specs.declared.layout.Layout.{Layout}
 use Rattle.memory.proofs.CellLaws.{Sized, sized-store, sized-cell, cell-store-other, word-cell-same, word-cell-other, word-store-other}
 use Rattle.memory.proofs.ScratchLaws.{word-put, place-instructions, width-instructions, sized-among}
 use Rattle.sheet.specs.declared.script.Script.{Script}
@@ -88,11 +88,6 @@ module _ (s : List ℕ) (x : Script) (h : Sound s x) where
 
 -- ---- leaders by all instructions are the leaders
 
-bool-eq : (a b : Bool) → (a ≡ true → b ≡ true) → (b ≡ true → a ≡ true) → a ≡ b
-bool-eq true b f g = sym (f refl)
-bool-eq false true f g = g refl
-bool-eq false false f g = refl
-
 -- a target of the k-th instruction is a target of some instruction, and back
 names : ℕ → Instruction → Bool
 names t v = elem t (v .targets)
@@ -123,7 +118,7 @@ module _ (s : List ℕ) (x : Script) (h : Sound s x) where
   led-leader : (j : ℕ) → j < x .count → ledBy (flowCode (partsOf s)) (x .count) j ≡ leader (flowCode (partsOf s)) j
   unfolding names
   led-leader zero b = refl
-  led-leader (suc i) b = rw (ne-eqb (suc i) 0 (λ e. omega arith)) (bool-eq _ _ there back)
+  led-leader (suc i) b = rw (ne-eqb (suc i) 0 (λ e. omega arith)) (same-truth _ _ there back)
     where
       code : List Instruction
       code = flowCode (partsOf s)

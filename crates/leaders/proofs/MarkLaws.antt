@@ -1,6 +1,6 @@
 -- Marking the leaders, instruction by instruction. Assumes nothing.
 use mathlib.Core.Logic.{_≢_}
-use mathlib.Core.Path.{_≡_, refl, sym, ap, subst, _∙_}
+use mathlib.Core.Path.{_≡_, refl, sym, ap, _∙_}
 use mathlib.Core.Bool.{Bool, true, false, _&&_, _||_, or-false, or-assoc}
 use mathlib.Core.List.{List, [], _∷_, _++_}
 use Prim.Native.Nat.{ℕ, zero, suc, _+_, _≤_, _<_}
@@ -12,10 +12,10 @@ use lib.ListN.{length, getD, drop, drop-of-length-le}
 use lib.Seq.{drop-cons}
 use borrow.Author.Tests.{eq-eqb, ne-eqb, lt-ltb, le-ltb}
 use Rattle.dataflow.specs.Lists.{pick, range, some, elem}
-use Rattle.dataflow.specs.Code.{Instruction, instructionAt}
+use Rattle.dataflow.specs.Code.{Instruction}
 use Rattle.memory.specs.Cells.{Mem, cell, word, store}
 use Rattle.memory.specs.Names.{blockOfCell, flag}
-use Rattle.memory.specs.Scratch.{scratchWidths, Place}
+use Rattle.memory.specs.Scratch.{scratchWidths}
 use Rattle.memory.specs.declared.layout.Layout.{Layout}
 use Rattle.memory.proofs.CellLaws.{Sized, sized-store, cell-store-other, word-store-other}
 use Rattle.memory.proofs.ScratchLaws.{word-put, place-instructions}
@@ -131,7 +131,8 @@ pub targets-all : (ts : List ℕ) (m : Mem) (k : ℕ) → length ts ≤ k → ma
 unfolding markAll
 targets-all ts m k h = rw (drop-of-length-le ts h) refl
 
-nth-there : (l : List ℕ) (k : ℕ) → k < length l → nth l k ≡ values.Is (getD l k 0)
+-- the k-th of a list that is long enough
+pub nth-there : (l : List ℕ) (k : ℕ) → k < length l → nth l k ≡ values.Is (getD l k 0)
 unfolding nth
 nth-there [] k h = absurd (omega arith)
 nth-there (x ∷ l) zero h = refl

@@ -1,36 +1,26 @@
 -- Numbering, instruction by instruction. Assumes nothing.
 use mathlib.Core.Logic.{_≢_}
 use mathlib.Core.Path.{_≡_, refl, sym, ap, _∙_}
-use mathlib.Core.Bool.{Bool, true, false, not, true≢false}
-use mathlib.Core.List.{List, [], _∷_, _++_, append-assoc, append-nil}
+use mathlib.Core.Bool.{true, false, not, true≢false}
+use mathlib.Core.List.{List, [], _∷_, _++_, append-nil}
 use Prim.Native.Nat.{ℕ, zero, suc, _+_, _-_, _≤_, _<_}
 use native.Mathlib.Decide.{ℕ-discrete}
 use native.Mathlib.Numerals.{add-one}
 use native.Mathlib.Omega.{arith}
-use lib.Dec.{eqb}
 use lib.ListN.{length, getD, take, set, length-append, length-set}
 use lib.Seq.{ext-getD, take-suc-set, getD-set-same, getD-set-other}
-use borrow.Author.Tests.{eq-eqb, ne-eqb, eqb-true}
-use Rattle.dataflow.specs.Lists.{pick, tabulate, range, keep}
-use Rattle.dataflow.proofs.Lists.{length-tabulate, getD-tabulate}
+use borrow.Author.Tests.{eq-eqb, ne-eqb}
+use Rattle.dataflow.specs.Lists.{pick, range, keep}
+use Rattle.dataflow.proofs.Lists.{length-tabulate, getD-tabulate, keep-append}
 use Rattle.memory.specs.Cells.{Mem, cell, word, store}
 use Rattle.memory.specs.Names.{blockOfCell, leaderCell}
-use Rattle.memory.proofs.CellLaws.{cell-store-same, cell-store-other, word-store-same, word-store-other}
+use Rattle.memory.proofs.CellLaws.{cell-store-same, cell-store-other}
 use Rattle.leaders.specs.Numbers.{marked, startsOf, numbersOf, numberOne, countOne, Numbered}
 
 pub range-snoc : (k n : ℕ) → range k (suc n) ≡ range k n ++ ((k + n) ∷ [])
 range-snoc k zero = ap (λ (x : ℕ). x ∷ []) (omega arith)
 range-snoc k (suc n) =
     ap (λ (l : List ℕ). k ∷ l) (range-snoc (suc k) n) ∙ ap (λ (x : ℕ). k ∷ (range (suc k) n ++ (x ∷ []))) (omega arith)
-
-keep-append : (f : ℕ → Bool) (a b : List ℕ) → keep f (a ++ b) ≡ keep f a ++ keep f b
-keep-append f [] b = refl
-keep-append f (x ∷ a) b = go (f x) (keep-append f a b)
-  where
-    go : (t : Bool) → keep f (a ++ b) ≡ keep f a ++ keep f b
-        → pick t (x ∷ keep f (a ++ b)) (keep f (a ++ b)) ≡ pick t (x ∷ keep f a) (keep f a) ++ keep f b
-    go true e = ap (λ (l : List ℕ). x ∷ l) e
-    go false e = e
 
 -- the starts up to and with one more instruction
 pub starts-more : (ms : List ℕ) (i : ℕ) → startsOf ms (suc i) ≡ startsOf ms i ++ pick (marked ms i) (i ∷ []) []

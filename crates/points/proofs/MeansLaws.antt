@@ -10,7 +10,7 @@ use lib.Dec.{eqb}
 use lib.ListN.{length}
 use Rattle.bitset.specs.Sets.{member, removed}
 use Rattle.bitset.proofs.SetLaws.{length-removed, member-removed}
-use Rattle.dataflow.specs.Lists.{every, elem}
+use Rattle.dataflow.specs.Lists.{elem}
 use Rattle.dataflow.specs.Analyses.{initTransfer, liveTransfer}
 use Rattle.dataflow.specs.Code.{Instruction, instructionAt, program}
 use Rattle.instructions.specs.Sets.{AllBelow, insertedAll}
@@ -41,11 +41,6 @@ member-removed-all (x ∷ l) ws w k q a =
     go : Dec (k ≡ x) → (not (elem k l) && (not (eqb x k) && member ws k)) ≡ (not (eqb k x || elem k l) && member ws k)
     go (yes e) = rw (eq-eqb x k (sym e), eq-eqb k x e) (swap true (elem k l) (member ws k))
     go (no e) = rw (ne-eqb x k (λ q. e (sym q)), ne-eqb k x e) (swap false (elem k l) (member ws k))
-
--- ---- a test over slots of the row
-pub every-means : (w : ℕ) (ws : List ℕ) (f : ℕ → Bool) (l : List ℕ) → AllBelow (64 * w) l → Means w ws f → every f l ≡ every (member ws) l
-every-means w ws f [] a m = refl
-every-means w ws f (x ∷ l) a m = ap₂ _&&_ (sym (m x (a .0))) (every-means w ws f l (a .1) m)
 
 module _ (code : List Instruction) (parameter : ℕ → Bool) (i w : ℕ) (ws : List ℕ) (f : ℕ → Bool) (outs : List ℕ)
     (long : length ws ≡ w) (o : instructionAt code i .outputs ≡ outs) (below : AllBelow (64 * w) outs) (means : Means w ws f) where

@@ -1,12 +1,12 @@
 -- The reads of a block's instructions one by one: the charge of each, its inputs, and its output put into the running set. Assumes nothing.
 use mathlib.Core.Path.{_≡_, refl, sym, ap, ap₂, subst, _∙_}
-use mathlib.Core.Bool.{Bool, true, false, not, _&&_, _||_, true≢false}
+use mathlib.Core.Bool.{Bool, true, false, not, _&&_, true≢false}
 use mathlib.Core.List.{List, [], _∷_}
 use Prim.Native.Nat.{ℕ, zero, suc, _+_, _*_, _-_, _≤_, _<_}
 use native.Mathlib.Omega.{arith}
 use lib.ListN.{length, getD}
 use Rattle.bitset.specs.Sets.{member}
-use Rattle.dataflow.specs.Lists.{pick, range, every, keep, elem}
+use Rattle.dataflow.specs.Lists.{pick, range, every, keep}
 use Rattle.dataflow.specs.Analyses.{initTransfer}
 use Rattle.dataflow.specs.Code.{Instruction, instructionAt, program}
 use Rattle.dataflow.specs.Verdict.{awaitAt}
@@ -36,7 +36,6 @@ use Rattle.script.proofs.ScriptLaws.{code-at}
 use Rattle.leaders.proofs.LeaderLaws.{readable-at}
 use Rattle.leaders.proofs.MarkLaws.{below-at}
 use Rattle.blocks.proofs.ReadLaws.{stands-at, flow-inputs, flow-outputs, inputs-at, output-at}
-use Rattle.blocks.proofs.MemberLaws.{member-all}
 use Rattle.blocks.proofs.TransferLaws.{range-more}
 use Rattle.points.specs.declared.reads.Reads.{Reads}
 use Rattle.points.specs.declared.reads.Reads.the-variants.{Filled, Unfilled, Over}
@@ -44,6 +43,7 @@ use Rattle.verdict.specs.Points.{Checking, stop, on, ifPaid, costAt, readsRun}
 use Rattle.answer.specs.Words.{Means}
 use Rattle.points.specs.Rows.{Coded, awaitsAmong, readsOf, ReadsChecked}
 use Rattle.points.specs.Slots.{awaitCount}
+use Rattle.points.proofs.MeansLaws.{means-init}
 
 -- ---- lists
 
@@ -151,20 +151,6 @@ pub means-there : (w : ℕ) (ws : List ℕ) (f : ℕ → Bool) → Means w ws f 
     → ((k : ℕ) → k < length l → member ws (getD l k 0) ≡ true) → every f l ≡ true
 means-there w ws f g l b e = every-there f l (λ k h. sym (g (getD l k 0) (below-at (64 * w) l k b h)) ∙ e k h)
 
--- the set after an instruction that empties nothing
-means-after : (code : List Instruction) (parameter : ℕ → Bool) (w pc : ℕ) (ws outs : List ℕ) (f : ℕ → Bool) → Means w ws f → length ws ≡ w
-    → AllBelow (64 * w) outs → instructionAt code pc .outputs ≡ outs → instructionAt code pc .emptied ≡ []
-    → Means w (insertedAll outs ws) (λ s. initTransfer (program code parameter) pc s (f s))
-means-after code parameter w pc ws outs f g q b e n i h =
-    member-all outs ws w i q b ∙ ap (λ (t : Bool). t || elem i outs) (g i h) ∙ go (f i) (elem i outs)
-    ∙ ap₂ (λ (o v : List ℕ). elem i o || (not (elem i v) && f i)) (sym e) (sym n)
-  where
-    go : (t o : Bool) → (t || o) ≡ (o || (not false && t))
-    go true true = refl
-    go true false = refl
-    go false true = refl
-    go false false = refl
-
 -- ---- after the instructions from start to pc
 
 -- a row of m that stands for a set has become one from which the run goes on as from the start
@@ -260,8 +246,8 @@ module _ (code : List Instruction) (parameter : ℕ → Bool) (y : Layout) (l : 
               run = λ f g. let u = a .run f g in (
                 (λ s. initTransfer (program code parameter) pc s (u .0 s)),
                 subst (λ (ws : List ℕ). Means (y .words) ws (λ s. initTransfer (program code parameter) pc s (u .0 s))) (sym same)
-                    (means-after code parameter (y .words) pc (cell m′ (stateRow (y .blocks))) outs (u .0) (u .1)
-                    (ap (λ (z : ℕ). length (cell m′ z)) (sym i) ∙ wide) ob out none),
+                    (means-init code parameter pc (y .words) (cell m′ (stateRow (y .blocks))) (u .0) outs
+                    (ap (λ (z : ℕ). length (cell m′ z)) (sym i) ∙ wide) out ob (u .1) none),
                 u .2 ∙ met (u .0) true (means-there (y .words) _ (u .0) (u .1) ins ib
                     (λ j lj. ap (λ (z : ℕ). member (cell m′ z) (getD ins j 0)) (sym i) ∙ all j lj))
                     ∙ ap (λ (z : ℕ). readsRun code parameter l (λ s. initTransfer (program code parameter) pc s (u .0 s)) (range z (end - z)) b) next,

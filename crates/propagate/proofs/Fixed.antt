@@ -24,6 +24,7 @@ use Rattle.solver.specs.declared.direction.Side.{Side}
 use Rattle.solver.specs.declared.direction.Side.the-variants.{Successors, Predecessors}
 use Rattle.solver.specs.Neighbors.{readsOf, countOf, firstOf, nextOf, endOf, edgesFrom, neighborsFrom, neighbors, Connected}
 use Rattle.solver.specs.Transfer.{runningRow, keptRow, entryOf, gatherOne, gatherAll, gathered, transferred, computed}
+use Rattle.solver.proofs.TransferLaws.{running-at}
 use Rattle.propagate.specs.Rounds.{rowsOf, gatherRow, gatherRows, rowSolver}
 
 -- ---- the rows that a round keeps
@@ -73,12 +74,7 @@ rows-set d y t c x lt fits =
 pub record Fixed (d : Direction) (y : Layout) (m₀ m : Mem) : Type 0 where
   pub others : (k : ℕ) → (k ≡ ringCell → ⊥) → (k ≡ queuedCell → ⊥) → (k ≡ runningRow d y → ⊥) → cell m k ≡ cell m₀ k
 
--- the running row is behind the blocks' rows, and before that of the parameters
-pub running-at : (d : Direction) (y : Layout) → (18 + 4 * y .blocks ≤ runningRow d y) × (runningRow d y < 20 + 4 * y .blocks)
-running-at Initialization y = (omega arith, omega arith)
-running-at Liveness y = (omega arith, omega arith)
-
--- so it is none of the cells before
+-- the running row is none of the cells before it
 pub not-running : (d : Direction) (y : Layout) (k : ℕ) → k < 18 + 4 * y .blocks → k ≡ runningRow d y → ⊥
 not-running d y k lt e = omega (arith, running-at d y .0)
 

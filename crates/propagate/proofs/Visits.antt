@@ -29,9 +29,10 @@ use Rattle.solver.specs.Neighbors.{readsOf, dependentsOf, neighbors, Connected}
 use Rattle.solver.specs.Transfer.{runningRow, keptRow, computed}
 use Rattle.solver.specs.Run.{At, Out, on, atOf, paid, onward, popped, offered, told, settled, visitCharge, firstIn, unmarked, withComputed, visited}
 use Rattle.solver.specs.Run.{run}
+use Rattle.solver.proofs.TransferLaws.{running-at}
 use Rattle.propagate.specs.Rounds.{rowSolver}
 use Rattle.propagate.proofs.RingWords.{ring-none}
-use Rattle.propagate.proofs.Fixed.{fixed-count, fixed-neighbors, fixed-computed, neighbors-long, rows-at, running-at}
+use Rattle.propagate.proofs.Fixed.{fixed-count, fixed-neighbors, fixed-computed, neighbors-long, rows-at}
 use Rattle.propagate.proofs.Simulation.{Simulates, offeredAll, behind, simulates-told, simulates-first, first-below, simulates-popped}
 use Rattle.propagate.proofs.Simulation.{simulates-computed, simulates-stored}
 

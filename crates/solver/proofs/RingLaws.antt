@@ -27,9 +27,9 @@ sum-set (x ∷ l) zero v h = omega arith
 sum-set (x ∷ l) (suc i) v h = omega (arith, sum-set l i v (omega arith))
 
 -- marks of at most 1 are no more than there are words
-sum-marks : (l : List ℕ) → ((i : ℕ) → getD l i 0 ≤ 1) → sum l ≤ length l
-sum-marks [] h = omega arith
-sum-marks (x ∷ l) h = omega (arith, h 0, sum-marks l (λ i. h (suc i)))
+pub sum-few : (l : List ℕ) → ((i : ℕ) → getD l i 0 ≤ 1) → sum l ≤ length l
+sum-few [] h = omega arith
+sum-few (x ∷ l) h = omega (arith, h 0, sum-few l (λ i. h (suc i)))
 
 -- what holds of each word of a list, and of the new word, holds after a store
 set-all : (P : ℕ → ℕ → Type 0) (l : List ℕ) (i v : ℕ) → ((j : ℕ) → P j (getD l j 0)) → P i v → i < length l
@@ -79,7 +79,7 @@ module _ (y : Layout) (m : Mem) (z : Sized (scratchWidths y) m) where
 
   -- no more blocks wait than there are
   pub good-count : (g : Ring) → Good y m g → g .count ≤ y .blocks
-  good-count g h = omega (arith, h .count, sum-marks (cell m queuedCell) (h .marks), marks-long)
+  good-count g h = omega (arith, h .count, sum-few (cell m queuedCell) (h .marks), marks-long)
 
   -- ---- a block that had no mark joins the ring
 

@@ -30,7 +30,7 @@ use Rattle.solver.specs.Transfer.{runningRow, keptRow, computed}
 use Rattle.solver.specs.Run.{At, Out, stop, on, atOf, outOf, paid, onward, offered, told, settled, popped, visitCharge, visited, run}
 use Rattle.solver.specs.Run.{Good, Went, Offers, Tells, wrap}
 use Rattle.solver.proofs.NeighborLaws.{SameEdges, same-none, same-then, end-kept, next-kept, ends-more, ends-over, Walk, walk-end, walk-more}
-use Rattle.solver.proofs.TransferLaws.{running-low}
+use Rattle.solver.proofs.TransferLaws.{running-at}
 use Rattle.solver.proofs.RingLaws.{Kept, good-row, popped-good, offers-kept}
 
 -- ---- a charge that was met: the sum did not saturate, since the limit is below the largest number
@@ -175,7 +175,7 @@ pub visit-good : (d : Direction) (y : Layout) (m : Mem) → Sized (scratchWidths
     → {m₁ m₂ : Mem} {h : ℕ} (x : List ℕ) → m₁ ≡ store m queuedCell c 0 → m₂ ≡ storeCell m₁ (runningRow d y) x → h ≡ wrap y (g .head + 1)
     → Good y m₂ (record { head = h; count = g .count - 1 })
 visit-good d y m z g c hc good {m₁} {h = h} x e₁ e₂ eh =
-    good-row y m₁ (runningRow d y) x _ (omega (arith, running-low d y)) e₂
+    good-row y m₁ (runningRow d y) x _ (omega (arith, running-at d y .0)) e₂
     (subst (λ (w : Mem). Good y w (record { head = h; count = g .count - 1 })) (sym e₁)
     (subst (λ (i : ℕ). Good y (store m queuedCell c 0) (record { head = i; count = g .count - 1 })) (sym eh) (popped-good y m z g c hc good)))
 

@@ -23,19 +23,14 @@ use Rattle.solver.proofs.NeighborLaws.{ends-more, ends-over, Walk, walk
 
 -- ---- where the rows are
 
--- the running row lies behind those of the blocks
-pub running-low : (d : Direction) (y : Layout) → 18 + 4 * y .blocks ≤ runningRow d y
-running-low Initialization y = omega arith
-running-low Liveness y = omega arith
-
--- and before the parameters
-pub running-high : (d : Direction) (y : Layout) → runningRow d y < 20 + 4 * y .blocks
-running-high Initialization y = omega arith
-running-high Liveness y = omega arith
+-- the running row lies behind those of the blocks, and before that of the parameters
+pub running-at : (d : Direction) (y : Layout) → (18 + 4 * y .blocks ≤ runningRow d y) × (runningRow d y < 20 + 4 * y .blocks)
+running-at Initialization y = (omega arith, omega arith)
+running-at Liveness y = (omega arith, omega arith)
 
 -- it is a row of scratch
 pub running-row : (d : Direction) (y : Layout) → Row y (runningRow d y)
-running-row d y = record { low = omega (arith, running-low d y); high = omega (arith, running-high d y) }
+running-row d y = record { low = omega (arith, running-at d y .0); high = omega (arith, running-at d y .1) }
 
 -- what is kept for a block is a row of the sets buffer
 pub kept-row : (d : Direction) (y : Layout) (b : ℕ) → b < y .blocks → SetsRow y (keptRow d b)
@@ -70,13 +65,13 @@ module _ (m t : Mem) (p : ℕ) (x : List ℕ) {g : ℕ} (e : g ≡ word m reacha
 module _ (d : Direction) (y : Layout) (m : Mem) (x : List ℕ) where
   -- each cell before it stays
   pub row-other : (k : ℕ) → k < 18 + 4 * y .blocks → cell (storeCell m (runningRow d y) x) k ≡ cell m k
-  row-other k h = cell-store-other m (runningRow d y) x k (λ q. omega (arith, running-low d y))
+  row-other k h = cell-store-other m (runningRow d y) x k (λ q. omega (arith, running-at d y .0))
 
   -- so do the edges
   pub row-edges : SameEdges m (storeCell m (runningRow d y) x)
   row-edges =
-      same-stored m (runningRow d y) x (omega (arith, running-low d y)) (λ q. omega (arith, running-low d y))
-      (λ q. omega (arith, running-low d y))
+      same-stored m (runningRow d y) x (omega (arith, running-at d y .0)) (λ q. omega (arith, running-at d y .0))
+      (λ q. omega (arith, running-at d y .0))
 
 -- a neighbor's row is gathered as before
 gather-one-kept : (d : Direction) (y : Layout) (m t : Mem) (x : List ℕ) (p : ℕ) (z : List ℕ)
