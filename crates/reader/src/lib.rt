@@ -2,6 +2,7 @@
 use records::record;
 use records::record::Step;
 ghost use mathlib.Core.Path.{_≡_};
+ghost use Rattle.records.specs.Records.{plainRun};
 ghost use Rattle.reader.specs.Steps.{functionStep, parametersStep, slotStep, instructionStep};
 
 // A sheet and a position in it.
@@ -37,6 +38,13 @@ pub fn slot<'a>(r: Reader<'a>) -> Step
     record::slot_record(r.sheet, r.at)
 }
 
+// How many plain slot records stand one after the other from the reader's position on, at most so many.
+pub fn plain_slots<'a>(r: Reader<'a>, most: usize) -> usize
+    ensures { λ n. ⌜ n ≡ plainRun (now (r .entry .sheet)) (r .entry .at) most ⌝ }
+{
+    record::plain_slots(r.sheet, most, r.at)
+}
+
 // The instruction record at the reader's position.
 pub fn instruction<'a>(r: Reader<'a>, slots: usize, count: usize) -> Step
     ensures { λ t. ⌜ t ≡ instructionStep (now (r .entry .sheet)) slots count (r .entry .at) ⌝ }
@@ -61,6 +69,12 @@ pub fn slot_at(s: &[u8], at: usize) -> Step
     ensures { λ r. ⌜ r ≡ slotStep (now (s .entry)) at ⌝ }
 {
     slot(new(s, at))
+}
+
+pub fn plain_slots_at(s: &[u8], most: usize, at: usize) -> usize
+    ensures { λ r. ⌜ r ≡ plainRun (now (s .entry)) at most ⌝ }
+{
+    plain_slots(new(s, at), most)
 }
 
 pub fn instruction_at(s: &[u8], slots: usize, count: usize, at: usize) -> Step

@@ -2,3 +2,4 @@
 pub mod RecordLaws
 pub mod Passed
 pub mod PlainLaws
+pub mod RunLaws

@@ -28,14 +28,26 @@ head-number n k h = go (eqb n 4) refl (eqb k 258) refl
 
 -- one for each way through `plain_slot`
 module _ (s : List ℕ) (at : ℕ) where
-  pub plain-short : length s < at + 6 → false ≡ plainSlot s at
+  pub plain-short : length s < at + 6 → plainSlot s at ≡ false
   unfolding plainSlot
   plain-short h = rw (lt-leb (at + 6) (length s) h)
 
-  pub plain-told : (n k : ℕ) → at + 6 ≤ length s → n ≡ u16At s at → n < 65536 → k ≡ kindAt s at
-      → (eqb (n + 65536 * k) 16908292 && (leb (getD s (at + 4) 0) 12 && leb (getD s (at + 5) 0) 3)) ≡ plainSlot s at
-  unfolding plainSlot
-  plain-told n k h e l q = rw (le-leb (at + 6) (length s) h, head-number n k l, e, q)
+  module _ (n k : ℕ) (h : at + 6 ≤ length s) (e : n ≡ u16At s at) (l : n < 65536) (q : k ≡ kindAt s at) where
+    pub plain-not-head : (n + 65536 * k ≡ 16908292 → ⊥) → false ≡ plainSlot s at
+    unfolding plainSlot
+    plain-not-head x =
+        rw (le-leb (at + 6) (length s) h, ← e, ← q, ← head-number n k l, ne-eqb (n + 65536 * k) 16908292 x)
+
+    module _ (x : n + 65536 * k ≡ 16908292) where
+      pub plain-not-physical : 12 < getD s (at + 4) 0 → false ≡ plainSlot s at
+      unfolding plainSlot
+      plain-not-physical p =
+          rw (le-leb (at + 6) (length s) h, ← e, ← q, ← head-number n k l, eq-eqb (n + 65536 * k) 16908292 x, lt-leb (getD s (at + 4) 0) 12 p)
+
+      pub plain-told : getD s (at + 4) 0 ≤ 12 → leb (getD s (at + 5) 0) 3 ≡ plainSlot s at
+      unfolding plainSlot
+      plain-told p =
+          rw (le-leb (at + 6) (length s) h, ← e, ← q, ← head-number n k l, eq-eqb (n + 65536 * k) 16908292 x, le-leb (getD s (at + 4) 0) 12 p)
 
 -- what its bytes are
 pub record Plain (s : List ℕ) (at : ℕ) : Type 0 where

@@ -2,9 +2,10 @@
 use mathlib.Core.Bool.{Bool, _||_, _&&_, not}
 use mathlib.Core.List.{List}
 use mathlib.Core.Option.{Option, none, some}
-use Prim.Native.Nat.{ℕ, _+_, _/_, _%_}
+use Prim.Native.Nat.{ℕ, zero, suc, _+_, _/_, _%_}
 use lib.Dec.{eqb, leb, ltb}
 use lib.ListN.{length, getD}
+use Rattle.operands.specs.Choice.{pick}
 use Rattle.operands.specs.Patterns.{fits}
 use Rattle.format.specs.declared.refusal.Refusal.{Refusal}
 use Rattle.format.specs.declared.refusal.Refusal.the-variants.{ShortSheet, WrongKind, BadBody, NoSuchSlot, NoSuchTarget}
@@ -50,6 +51,11 @@ plainSlot s at =
     leb (at + 6) (length s)
     && ((eqb (u16At s at) 4 && eqb (kindAt s at) 258)
     && (leb (getD s (at + 4) 0) 12 && leb (getD s (at + 5) 0) 3))
+
+-- how many of them stand one after the other from an offset on, at most n
+unfoldable pub plainRun : List ℕ → ℕ → ℕ → ℕ
+plainRun s at zero = 0
+plainRun s at (suc n) = let r = plainRun s (at + 6) n in pick (plainSlot s at) (suc r) 0
 
 -- a kind of instruction
 abbrev pub isInstruction : ℕ → Bool

@@ -9,10 +9,10 @@ use format::types;
 use format::types::Typed;
 use operands::pattern::Pattern;
 ghost use mathlib.Core.Path.{_≡_};
-ghost use Prim.Native.Nat.{_≤_};
+ghost use Prim.Native.Nat.{_+_, _≤_, min};
 ghost use lib.ListN.{length};
 ghost use Rattle.format.specs.Heads.{kindAt, endAt};
-ghost use Rattle.records.specs.Records.{stepOf, refusalIn, badSlot, plainSlot, fieldsFault, functionFault, parametersFault, slotFault, instructionFault};
+ghost use Rattle.records.specs.Records.{stepOf, refusalIn, badSlot, plainSlot, plainRun, fieldsFault, functionFault, parametersFault, slotFault, instructionFault};
 
 pub const FUNCTION: usize = 256;
 
@@ -91,8 +91,8 @@ fn bad_slot(s: &[u8], body: usize, end: usize) -> bool
     next != end
 }
 
-// The slot record at an offset, of whatever type.
-fn any_slot(s: &[u8], at: usize) -> Step
+// The slot record at an offset.
+pub fn slot_record(s: &[u8], at: usize) -> Step
     ensures { λ r. ⌜ r ≡ stepOf (slotFault (now (s .entry)) at) (endAt (now (s .entry)) at) (kindAt (now (s .entry)) at) ⌝ }
 {
     let Head::Record(kind, body, end) = head::head_at(s, at) else {
@@ -107,28 +107,45 @@ fn any_slot(s: &[u8], at: usize) -> Step
     Step::Next(end, kind)
 }
 
-// Whether a slot record with a type of one byte stands at an offset: most are so. Its head is one number: length 4, kind 258.
+// Whether six bytes are a slot record with a type of one byte: most are so. Its head is one number: length 4, kind 258.
 fn plain_slot(s: &[u8], at: usize) -> bool
+    requires { ⌜ at + 6 ≤ length (now s) ⌝ }
     ensures { λ r. ⌜ r ≡ plainSlot (now (s .entry)) at ⌝ }
 {
-    if s.len() < 6 {
+    if bytes::u16_at(s, at) + 65536 * bytes::u16_at(s, at + 2) != 16908292 {
         return false;
     }
-    if s.len() - 6 < at {
+    if 12 < s[at + 4] {
         return false;
     }
-    (bytes::u16_at(s, at) + 65536 * bytes::u16_at(s, at + 2) == 16908292)
-        & ((s[at + 4] <= 12) & (s[at + 5] <= types::REFERENCE))
+    s[at + 5] <= types::REFERENCE
 }
 
-// The slot record at an offset. A plain one is told at a glance, and ends six bytes on.
-pub fn slot_record(s: &[u8], at: usize) -> Step
-    ensures { λ r. ⌜ r ≡ stepOf (slotFault (now (s .entry)) at) (endAt (now (s .entry)) at) (kindAt (now (s .entry)) at) ⌝ }
+fn smaller(a: usize, b: usize) -> usize
+    ensures { λ r. ⌜ r ≡ min a b ⌝ }
 {
-    if plain_slot(s, at) {
-        return Step::Next(at + 6, SLOT);
+    if a < b {
+        return a;
     }
-    any_slot(s, at)
+    b
+}
+
+// How many plain slot records, of six bytes each, stand one after the other from an offset on, at most so many.
+pub fn plain_slots(s: &[u8], most: usize, at: usize) -> usize
+    ensures { λ r. ⌜ r ≡ plainRun (now (s .entry)) at most ⌝ }
+{
+    if s.len() < at {
+        return 0;
+    }
+    let n = smaller(most, (s.len() - at) / 6);
+    let mut k = 0;
+    while k < n {
+        if !plain_slot(s, at + 6 * k) {
+            return k;
+        }
+        k += 1;
+    }
+    k
 }
 
 // What is wrong with the fields as an answer: 3, then 7, then 8.

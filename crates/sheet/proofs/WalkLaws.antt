@@ -3,14 +3,17 @@ use mathlib.Core.Path.{_≡_, refl, ap, sym, _∙_}
 use mathlib.Core.Bool.{Bool, true, false}
 use mathlib.Core.List.{List}
 use mathlib.Core.Option.{Option, none, some}
-use Prim.Native.Nat.{ℕ, suc, _+_, _-_, _≤_, _<_}
+use Prim.Native.Nat.{ℕ, zero, suc, _+_, _*_, _-_, _≤_, _<_}
 use native.Mathlib.Nat.{zero-add}
 use native.Mathlib.Omega.{arith}
+use Rattle.operands.specs.Choice.{pick}
 use Rattle.operands.specs.Kinds.{isAwait}
 use Rattle.format.specs.declared.refusal.Refusal.{Refusal}
 use Rattle.records.specs.declared.record.Step.the-variants.{Next, Stop}
 use Rattle.format.specs.Heads.{kindAt, endAt}
-use Rattle.records.specs.Records.{stepOf}
+use Rattle.records.specs.Records.{slotFault, plainSlot, plainRun, stepOf}
+use Rattle.records.proofs.PlainLaws.{plain, plain-due}
+use Rattle.records.proofs.RunLaws.{plain-run-most}
 use Rattle.sheet.specs.Decode.{offsetOf}
 use Rattle.sheet.specs.Stages.{firstOf, lastKind, awaitsFrom, oneIf}
 
@@ -62,6 +65,42 @@ module _ (fault : ℕ → Option Refusal) (s : List ℕ) (n first : ℕ) where
     pub run-end : n ≤ i → offsetOf s first n ≡ at
     unfolding offsetOf
     run-end h = let q : n - i ≡ 0 = omega arith in r .offset ∙ rw q
+
+-- a plain slot record passes, and ends six bytes on
+plain-passes : (s : List ℕ) (at : ℕ) → plainSlot s at ≡ true → (slotFault s at ≡ none) × (endAt s at ≡ at + 6)
+plain-passes s at e =
+    let w = went (slotFault s at) (endAt s at) (kindAt s at) (at + 6) 258 (plain-due s at (plain s at e)) in
+    (w .no-fault, sym (w .is-end))
+
+-- so what goes on behind a record that passed goes on behind a run of plain ones
+module _ {A : Type 0} (s : List ℕ) (g : ℕ → ℕ → A) (step : (at n : ℕ) → slotFault s at ≡ none → g at (suc n) ≡ g (endAt s at) n) where
+  behind-plain : (n at : ℕ) → g at n ≡ g (at + 6 * plainRun s at n) (n - plainRun s at n)
+  unfolding plainRun
+  behind-plain zero at = let x : at ≡ at + 6 * 0 = omega arith in let y : 0 ≡ 0 - 0 = omega arith in cc
+  behind-plain (suc n) at = go (plainSlot s at) refl (behind-plain n (at + 6))
+    where
+      go : (b : Bool) → plainSlot s at ≡ b → g (at + 6) n ≡ g (at + 6 + 6 * plainRun s (at + 6) n) (n - plainRun s (at + 6) n)
+          → g at (suc n) ≡ g (at + 6 * pick b (suc (plainRun s (at + 6) n)) 0) (suc n - pick b (suc (plainRun s (at + 6) n)) 0)
+      go true b e =
+          let p = plain-passes s at b in
+          let t = step at n (p .0) in
+          let q = p .1 in
+          let x : at + 6 + 6 * plainRun s (at + 6) n ≡ at + 6 * suc (plainRun s (at + 6) n) = omega arith in
+          let y : n - plainRun s (at + 6) n ≡ suc n - suc (plainRun s (at + 6) n) = omega arith in
+          cc
+      go false b e = let x : at ≡ at + 6 * 0 = omega arith in let y : suc n ≡ suc n - 0 = omega arith in cc
+
+-- the run behind the plain records at its place
+module _ (s : List ℕ) (n first at i : ℕ) (r : Run (λ a. slotFault s a) s n first at i) where
+  pub run-plain : (k : ℕ) → k ≡ plainRun s at (n - i) → Run (λ a. slotFault s a) s n first (at + 6 * k) (i + k)
+  unfolding firstOf offsetOf
+  run-plain k e =
+      let q : n - i - k ≡ n - (i + k) = omega arith in
+      record {
+        below = omega (arith, r .below, plain-run-most s (n - i) at);
+        faults = r .faults ∙ behind-plain s (firstOf (λ a. slotFault s a) s) (λ at n h. rw h) (n - i) at ∙ rw (← e, q);
+        offset = r .offset ∙ behind-plain s (offsetOf s) (λ at n h. refl) (n - i) at ∙ rw (← e, q);
+      }
 
 -- the last kind and the awaits up to record i
 pub record Counted (s : List ℕ) (n first at i last awaits : ℕ) : Type 0 where

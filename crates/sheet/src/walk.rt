@@ -25,13 +25,19 @@ impl Code {
     }
 }
 
-// So many slot records from an offset on.
+// So many slot records from an offset on: each turn takes the plain ones that stand there, and then one of any type.
 pub fn walk_slots(s: &[u8], slots: usize, first: usize) -> Step
     ensures { λ r. ⌜ r ≡ walkedSlots (now (s .entry)) slots first ⌝ }
 {
     let mut at = first;
     let mut i = 0;
     while i < slots {
+        let plain = reader::plain_slots_at(s, slots - i, at);
+        at += 6 * plain;
+        i += plain;
+        if slots <= i {
+            return Step::Next(at, record::SLOT);
+        }
         let step = reader::slot_at(s, at);
         let Step::Next(next, _) = step else {
             return step;
