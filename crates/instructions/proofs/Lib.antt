@@ -5,3 +5,4 @@ pub mod SetSteps
 pub mod Operands
 pub mod Sound
 pub mod SetMembers
+pub mod HostWords

@@ -8,16 +8,15 @@ use native.Mathlib.Nat.{zero-mul}
 use mir.Val.{boolByte}
 use borrow.Author.Tests.{ltb-true, ltb-false}
 use lib.Dec.{ltb}
-use lib.Bits.{bitOr, or-zero-r}
-use lib.ListN.{length, getD, set, replicate, length-replicate}
-use lib.Seq.{ext-getD, set-getD}
+use lib.ListN.{length, getD, replicate, length-replicate}
+use lib.Seq.{ext-getD}
 use Rattle.operands.specs.Choice.{pick}
 use Rattle.operands.specs.Bytes.{u32At, numbersAt}
 use Rattle.bitset.specs.Sets.{inserted}
 use Rattle.bitset.specs.Rows.{row, patched, insertedAt}
 use Rattle.bitset.proofs.Digits.{mask}
 use Rattle.bitset.proofs.SetLaws.{length-inserted}
-use Rattle.bitset.proofs.RowLaws.{length-row, length-patched, patched-before, patched-in, patched-after, patched-self, row-same, inserted-row, put-slot}
+use Rattle.bitset.proofs.RowLaws.{length-row, length-patched, patched-before, patched-in, patched-after, patched-self, row-same, inserted-row}
 use Rattle.format.specs.Heads.{endAt}
 use Rattle.sheet.specs.Decode.{SlotKind, offsetOf, slotOf, recordsFrom}
 use Rattle.instructions.specs.Slots.{isHost}
@@ -148,32 +147,6 @@ module _ (s : List ℕ) (first n : ℕ) (l : List ℕ) (base w : ℕ) (room : ba
       }
 
   module _ (at k : ℕ) (x : List ℕ) (r : Hosted s first n l base w at k x) where
-    put : (b : Bool) → k / 64 < w → pick b (insertedAt x base k) x ≡ patched x base (pick b (inserted (row x base w) k) (row x base w))
-    put true m = inserted-row x base w k (omega (arith, r .long)) m
-    put false m = sym (patched-self x base w (omega (arith, r .long)))
-
-    pub hosted-more : (next : ℕ) (b : Bool) (y : List ℕ) → k < n → next ≡ endAt s at → b ≡ isHost (slotOf s at) → k / 64 < w
-        → y ≡ pick b (insertedAt x base k) x → Hosted s first n l base w next (k + 1) y
-    unfolding recordsFrom insertedHosts
-    hosted-more next b y h e t m p =
-        let q : n - k ≡ suc (n - (k + 1)) = omega arith in
-        let room′ : base + w ≤ length x = omega (arith, r .long) in
-        let z : List ℕ = pick b (inserted (row x base w) k) (row x base w) in
-        let long-z : length z ≡ w = length-pick b (row x base w) k ∙ length-row x base w room′ in
-        let is-y : y ≡ patched x base z = p ∙ put b m in
-        let rest : List SlotKind = recordsFrom (slotOf s) s next (n - (k + 1)) in
-        let more : recordsFrom (slotOf s) s at (n - k) ≡ slotOf s at ∷ rest = rw (q, e) in
-        let one : k + 1 ≡ suc k = omega arith in
-        record {
-          below = omega arith;
-          place = e ∙ ap (endAt s) (r .place) ∙ sym (offset-next s first k) ∙ ap (offsetOf s first) (sym one);
-          long = ap length is-y ∙ length-patched x base z (omega arith) ∙ r .long;
-          is = r .is
-              ∙ ap (λ (m : List SlotKind). patched x base (insertedHosts m k (row x base w))) more
-              ∙ ap (λ (c : Bool). patched x base (insertedHosts rest (k + 1) (pick c (inserted (row x base w) k) (row x base w)))) (sym t)
-              ∙ sym (rw is-y (replaced x base w (insertedHosts rest (k + 1)) z room′ long-z (length-hosts rest (k + 1) z)));
-        }
-
     pub hosted-end : n ≤ k → x ≡ patched l base (insertedHosts (recordsFrom (slotOf s) s first n) 0 (row l base w))
     unfolding recordsFrom insertedHosts
     hosted-end h =
@@ -189,15 +162,3 @@ cleared l base w f x h q e = rw e (replaced l base w f (replicate w 0) h (length
 pub bit-made : (b : Bool) (slot : ℕ) → boolByte b * 2 ^ (slot % 64) % 2 ^ 64 ≡ pick b (2 ^ (slot % 64)) 0
 bit-made true slot = mask (slot % 64) (omega arith)
 bit-made false slot = ap (λ (x : ℕ). x % 2 ^ 64) (zero-mul (2 ^ (slot % 64)))
-
--- and its store
-pub put-if : (l : List ℕ) (base slot : ℕ) (test : Bool) (m : ℕ) → base ≤ length l → m ≡ pick test (2 ^ (slot % 64)) 0
-    → set l (base + slot / 64) (bitOr (getD l (base + slot / 64) 0) m) ≡ pick test (insertedAt l base slot) l
-unfolding insertedAt inserted
-put-if l base slot true m h e =
-    ap (λ (x : ℕ). set l (base + slot / 64) (bitOr (getD l (base + slot / 64) 0) x)) (e ∙ sym (mask (slot % 64) (omega arith)))
-    ∙ put-slot bitOr l base slot h
-put-if l base slot false m h e =
-    ap (λ (x : ℕ). set l (base + slot / 64) (bitOr (getD l (base + slot / 64) 0) x)) e
-    ∙ ap (λ (x : ℕ). set l (base + slot / 64) x) (or-zero-r (getD l (base + slot / 64) 0))
-    ∙ set-getD l (base + slot / 64) 0

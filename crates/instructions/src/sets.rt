@@ -3,14 +3,14 @@ use crate::slot;
 use operands::instruction;
 use sheet::script::Script;
 ghost use mathlib.Core.Path.{_≡_};
-ghost use Prim.Native.Nat.{_+_, _*_, _/_, _%_, _^_, _≤_, _<_};
+ghost use Prim.Native.Nat.{_+_, _*_, _%_, _^_, _≤_, _<_, min};
 ghost use lib.ListN.{length};
 ghost use Rattle.operands.specs.Bytes.{numbersAt};
 ghost use Rattle.operands.specs.Choice.{pick};
-ghost use Rattle.bitset.specs.Rows.{row, patched, insertedAt};
+ghost use Rattle.bitset.specs.Rows.{row, patched};
 ghost use Rattle.sheet.specs.Decode.{slotOf, recordsFrom, partsOf};
 ghost use Rattle.instructions.specs.Slots.{SlotsStand};
-ghost use Rattle.instructions.specs.Sets.{AllBelow, insertedAll, insertedHosts, parameterRow, hostRow};
+ghost use Rattle.instructions.specs.Sets.{AllBelow, insertedAll, insertedHosts, hostWordAt, parameterRow, hostRow};
 ghost use Rattle.instructions.specs.Sound.{Sound};
 
 // Puts so many numbers, which stand from an offset on, into the row at base.
@@ -43,26 +43,58 @@ fn bit_if(slot: usize, test: bool) -> u64
     (test as u64) << (slot % 64)
 }
 
-// Puts the slot into the set that begins at base, if the test holds. It stores either way: host slots stand in no order that a branch could follow.
-fn insert_if(words: &mut [u64], base: usize, slot: usize, test: bool)
-    requires { ⌜ base + slot / 64 < length (now words) ⌝ }
-    ensures { λ _. ⌜ now (words .exit) ≡ pick test (insertedAt (now (words .entry)) base slot) (now (words .entry)) ⌝ }
-{
-    words[base + slot / 64] |= bit_if(slot, test);
+// A word of a set, and where the record behind its slots begins.
+struct HostWord {
+    bits: u64,
+    next: usize,
 }
 
-// Puts those of so many slots, whose records stand from an offset on, that are host slots into the row at base.
+// The word with those of n slots, whose records stand from an offset on, that are host slots. It gathers them in a local, so that no record waits
+// for the store of the one before; and host slots stand in no order that a branch could follow.
+fn host_word(s: &[u8], first: usize, n: usize, word: u64) -> HostWord
+    requires { ⌜ SlotsStand (now s) first n ⌝ }
+    ensures { λ r. ⌜ r ≡ hostWordAt (now (s .entry)) first n word ⌝ }
+{
+    let mut bits = word;
+    let mut at = first;
+    let mut k = 0;
+    while k < n {
+        let record = slot::slot_at(s, at);
+        bits |= bit_if(k, record.is_host());
+        at = record.next;
+        k += 1;
+    }
+    HostWord {
+        bits: bits,
+        next: at,
+    }
+}
+
+// How many of so many slots one word holds.
+fn in_word(left: usize) -> usize
+    ensures { λ r. ⌜ r ≡ min left 64 ⌝ }
+{
+    if left < 64 {
+        return left;
+    }
+    64
+}
+
+// Puts those of so many slots, whose records stand from an offset on, that are host slots into the row at base, a word at a time.
 fn insert_host_slots(s: &[u8], first: usize, count: usize, words: &mut [u64], base: usize, w: usize)
     requires { ⌜ (SlotsStand (now s) first count) × (count ≤ 64 * w) × (base + w ≤ length (now words)) ⌝ }
     ensures { λ _. ⌜ now (words .exit) ≡ patched (now (words .entry)) base (insertedHosts (recordsFrom (slotOf (now (s .entry))) (now (s .entry)) first count) 0 (row (now (words .entry)) base w)) ⌝ }
 {
     let mut at = first;
     let mut k = 0;
+    let mut j = 0;
     while k < count {
-        let record = slot::slot_at(s, at);
-        insert_if(words, base, k, record.is_host());
-        at = record.next;
-        k += 1;
+        let n = in_word(count - k);
+        let word = host_word(s, at, n, words[base + j]);
+        words[base + j] = word.bits;
+        at = word.next;
+        k += n;
+        j += 1;
     }
 }
 

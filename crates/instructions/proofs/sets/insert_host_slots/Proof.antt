@@ -1,77 +1,132 @@
--- `instructions::sets::insert_host_slots` meets its contract. Assumes nothing.
-use mathlib.Core.Path.{sym, ap, _∙_, subst}
-use Prim.Native.Nat.{_+_, _-_, _≤_}
+-- `instructions::sets::insert_host_slots` meets its contract: a word at a time. Assumes nothing.
+use mathlib.Core.Path.{_≡_, refl, ap}
+use Prim.Native.Nat.{_+_, _*_, _-_, _≤_, _<_}
 use native.Mathlib.Omega.{arith}
-use denote.Ref.{now}
 use lib.ListN.{length}
+use denote.Ref.{now}
 use borrow.Author.Needs.{needs}
-use Rattle.instructions.specs.Slots.{SlotStands, isHost, slotRecordAt, hostRecord}
-use Rattle.instructions.specs.declared.slot.SlotRecord.{SlotRecord}
-use Rattle.instructions.proofs.SetSteps.{Hosted, hosted-start, hosted-more, hosted-end}
+use Rattle.instructions.specs.Sets.{hostWordAt}
+use Rattle.instructions.specs.declared.sets.HostWord.{HostWord}
+use Rattle.instructions.proofs.SetSteps.{Hosted, hosted-start, hosted-end}
+use Rattle.instructions.proofs.HostWords.{stand-from, hosted-word}
 use Rattle.instructions.proofs.sets.insert_host_slots.Statement.{statement}
 use Rattle.instructions.proofs.sets.insert_host_slots.Tie as tie
 
 abbrev Inv-loop : tie.InvT-loop
-Inv-loop s first count words₀ base w at₀ k₀ words at k =
-    (base + w ≤ length words₀) × Hosted s first count words₀ base w at k words
+Inv-loop s first count words₀ base w at₀ k₀ j₀ words at k j =
+    (base + w ≤ length words₀) × (j ≤ w) × (k < count → k ≡ 64 * j) × Hosted s first count words₀ base w at k words
 
 abbrev μ-loop : tie.MeasureT-loop
-μ-loop s first count words₀ base w at₀ k₀ words at k =
-    count - k
+μ-loop s first count words₀ base w at₀ k₀ j₀ words at k j = count - k
 
 loop-holds : tie.Need-loop-holds Inv-loop μ-loop
 loop-holds c =
     let p = c .before .before .pre in
-    let a = c .before .before .args in (p .2, hosted-start (now (a .s)) (a .first) (a .count) (now (a .words)) (a .base) (a .w) (p .2))
+    let a = c .before .before .args in
+    (p .2, omega arith, λ h. omega arith, hosted-start (now (a .s)) (a .first) (a .count) (now (a .words)) (a .base) (a .w) (p .2))
 
-slot-at-requires : tie.Need-slot-at-requires Inv-loop μ-loop
-slot-at-requires c κs =
-    let a = c .before .before .before .before .args in
-    let p = c .before .before .before .before .pre in
-    let l = c .before .loop in
-    subst (SlotStands (now (a .s))) (sym (l .inv .1 .place)) (p .0 .each (l .k) (omega arith))
+sub-in-word : tie.Need-sub-in-word Inv-loop μ-loop
+sub-in-word c = search needs
 
-is-host-requires : tie.Need-is-host-requires Inv-loop μ-loop
-is-host-requires c κs = search needs
+in-word-requires : tie.Need-in-word-requires Inv-loop μ-loop
+in-word-requires c κs = search needs
 
-insert-if-requires : tie.Need-insert-if-requires Inv-loop μ-loop
-insert-if-requires c κs =
+add-host-word : tie.Need-add-host-word Inv-loop μ-loop
+add-host-word c =
+    let loop-test = c .before .loop-test in
+    let p = c .before .before .before .before .before .pre in
+    let l = c .before .before .loop in
+    omega (arith, l .inv .0, l .inv .2 (loop-test .taken), p .1, l .inv .3 .long)
+
+mul-host-word : tie.Need-mul-host-word Inv-loop μ-loop
+mul-host-word c =
+    let loop-test = c .before .loop-test in
+    let p = c .before .before .before .before .before .pre in
+    let l = c .before .before .loop in
+    omega (arith, l .inv .0, l .inv .2 (loop-test .taken), p .1, l .inv .3 .long)
+
+slice-read-host-word : tie.Need-slice-read-host-word Inv-loop μ-loop
+slice-read-host-word c =
+    let loop-test = c .before .before .loop-test in
+    let p = c .before .before .before .before .before .before .pre in
+    let l = c .before .before .before .loop in
+    omega (arith, l .inv .0, l .inv .2 (loop-test .taken), p .1, l .inv .3 .long)
+
+host-word-requires : tie.Need-host-word-requires Inv-loop μ-loop
+host-word-requires c κs =
+    let p = c .before .before .before .before .before .before .pre in
+    let in-word = c .before .in-word in
+    let loop-test = c .before .before .loop-test in
+    let l = c .before .before .before .loop in
+    stand-from (p .0) (l .k) (in-word .result) (l .inv .3 .place) (omega (arith, in-word .ensures, loop-test .taken))
+
+add-words : tie.Need-add-words Inv-loop μ-loop
+add-words c =
+    let loop-test = c .before .before .before .loop-test in
+    let p = c .before .before .before .before .before .before .before .pre in
     let l = c .before .before .before .before .loop in
-    let r = l .inv .1 in
-    omega (arith, c .before .before .before .before .before .before .before .pre .1, r .long, l .inv .0)
+    omega (arith, l .inv .0, l .inv .2 (loop-test .taken), p .1, l .inv .3 .long)
+
+mul-words : tie.Need-mul-words Inv-loop μ-loop
+mul-words c =
+    let loop-test = c .before .before .before .loop-test in
+    let p = c .before .before .before .before .before .before .before .pre in
+    let l = c .before .before .before .before .loop in
+    omega (arith, l .inv .0, l .inv .2 (loop-test .taken), p .1, l .inv .3 .long)
+
+slice-write-words : tie.Need-slice-write-words Inv-loop μ-loop
+slice-write-words c =
+    let loop-test = c .before .before .before .loop-test in
+    let p = c .before .before .before .before .before .before .before .pre in
+    let l = c .before .before .before .before .loop in
+    omega (arith, l .inv .0, l .inv .2 (loop-test .taken), p .1, l .inv .3 .long)
 
 add-k : tie.Need-add-k Inv-loop μ-loop
-add-k c = search needs
+add-k c =
+    let in-word = c .before .before .in-word in
+    let loop-test = c .before .before .before .loop-test in
+    omega (arith, in-word .ensures, loop-test .taken)
+
+add-j : tie.Need-add-j Inv-loop μ-loop
+add-j c =
+    let loop-test = c .before .before .before .loop-test in
+    let p = c .before .before .before .before .before .before .before .pre in
+    let l = c .before .before .before .before .loop in
+    omega (arith, l .inv .0, l .inv .2 (loop-test .taken), p .1, l .inv .3 .long)
 
 loop-less : tie.Need-loop-less Inv-loop μ-loop
 loop-less c =
-    let l = c .before .before .before .before .before .before .before .loop in omega arith
+    let in-word = c .before .before .in-word in
+    let loop-test = c .before .before .before .loop-test in
+    omega (arith, in-word .ensures, loop-test .taken)
 
 loop-again : tie.Need-loop-again Inv-loop μ-loop
-unfolding isHost slotRecordAt
+unfolding hostWordAt
 loop-again c =
-    let p = c .before .before .before .before .before .before .before .before .before .before .pre in
-    let a = c .before .before .before .before .before .before .before .before .before .before .args in
-    let l = c .before .before .before .before .before .before .before .loop in
-    let r = l .inv .1 in
-    let e = c .before .before .before .before .before .slot-at .ensures in (
+    let loop-test = c .before .before .before .loop-test in
+    let in-word = c .before .before .in-word in
+    let p = c .before .before .before .before .before .before .before .pre in
+    let l = c .before .before .before .before .loop in
+    let taken = loop-test .taken in
+    let n = in-word .ensures in
+    let e = c .host-word .ensures in
+    let here = l .inv .2 taken in (
       l .inv .0,
-      hosted-more (now (a .s)) (a .first) (a .count) (now (a .words)) (a .base) (a .w) (l .inv .0) (l .at) (l .k) (l .words) r
-          (c .before .before .before .before .before .slot-at .result .next)
-          (c .before .before .before .is-host .result) (c .before .before .insert-if .last .0) (omega arith) (ap (λ (x : SlotRecord). x .next) e)
-          (c .before .before .before .is-host .ensures ∙ ap hostRecord e)
-          (omega (arith, p .1)) (c .before .before .insert-if .ensures),
+      omega (arith, here, p .1, taken),
+      λ h. omega (arith, here, n, taken),
+      hosted-word (l .inv .0) (l .inv .3) here (omega (arith, here, p .1, taken)) (omega (arith, n, taken)) (omega (arith, n))
+          (ap (λ (x : HostWord). x .next) e) (ap (λ (x : HostWord). x .bits) e) refl,
     )
 
 same-length : tie.Need-same-length Inv-loop μ-loop
 same-length c =
-    c .before .loop .inv .1 .long
+    c .before .loop .inv .3 .long
 
 returns : tie.Need-returns Inv-loop μ-loop
 returns c =
     let a = c .before .before .before .before .args in
     let l = c .before .loop in
-    hosted-end (now (a .s)) (a .first) (a .count) (now (a .words)) (a .base) (a .w) (l .inv .0) (l .at) (l .k) (l .words) (l .inv .1) (omega arith)
+    hosted-end (now (a .s)) (a .first) (a .count) (now (a .words)) (a .base) (a .w) (l .inv .0) (l .at) (l .k) (l .words) (l .inv .3) (c .loop-test .left)
 
 pub insert-host-slots-spec : {M : Type 1} → statement M
 insert-host-slots-spec =
@@ -80,10 +135,17 @@ insert-host-slots-spec =
     Inv-loop
     μ-loop
     loop-holds
-    slot-at-requires
-    is-host-requires
-    insert-if-requires
+    sub-in-word
+    in-word-requires
+    add-host-word
+    mul-host-word
+    slice-read-host-word
+    host-word-requires
+    add-words
+    mul-words
+    slice-write-words
     add-k
+    add-j
     loop-less
     loop-again
     same-length
