@@ -4,7 +4,6 @@ use borrow.Author.Needs.{needs}
 use Rattle.memory.specs.Scratch.{scratch}
 use Rattle.memory.specs.Sets.{sets}
 use Rattle.memory.proofs.ScratchLaws.{scratch-sized, sized-among}
-use Rattle.solver.specs.Neighbors.{readsOf}
 use Rattle.solver.proofs.TransferLaws.{running-row, gathers-none, gathers, first-edge, first-end, first-behind}
 use Rattle.solver.proofs.transfer.gather.Statement.{statement}
 use Rattle.solver.proofs.transfer.gather.Tie as tie
