@@ -92,7 +92,7 @@ fn begin_with(s: &mut [u64], t: &[u64], y: Layout, d: Direction, block: usize, f
     }
 }
 
-// Only at block 0 is there more to meet than all slots.
+// What a predecessor keeps is met with the parameters at block 0, with all slots at another.
 fn begin_met(s: &mut [u64], t: &[u64], y: Layout, block: usize, from: usize)
     requires { ⌜ Room y (length (now s)) × SetsRoom y (length (now t)) × (from < y .blocks) ⌝ }
     ensures { λ _. ⌜ scratch y (now (s .exit)) ≡ storeCell (scratch y (now (s .entry))) (runningRow Initialization y) (gatherOne Initialization (scratch y (now (s .entry))) (sets y (now (t .entry))) from (entryOf Initialization y (scratch y (now (s .entry))) block)) ⌝ }
