@@ -14,22 +14,18 @@ use Rattle.bitset.specs.Rows.{row, patched}
 use Rattle.bitset.proofs.RowLaws.{length-row, getD-row, length-patched, set-row}
 use Rattle.format.specs.Heads.{endAt}
 use Rattle.sheet.specs.Decode.{SlotKind, offsetOf, slotOf, recordsFrom}
+use Rattle.sheet.proofs.WalkLaws.{offset-add}
 use Rattle.instructions.specs.Slots.{isHost, SlotsStand, SlotStands}
 use Rattle.instructions.specs.Sets.{insertedHosts, hostBits}
 use Rattle.instructions.proofs.SetSteps.{length-hosts, replaced, Hosted, offset-next}
 use Rattle.instructions.proofs.SetMembers.{records-count}
 
 -- ---- where records stand
-offset-add : (s : List ℕ) (at k i : ℕ) → offsetOf s (offsetOf s at k) i ≡ offsetOf s at (k + i)
-unfolding offsetOf
-offset-add s at zero i = ap (offsetOf s at) (sym (zero-add i))
-offset-add s at (suc k) i = offset-add s (endAt s at) k i ∙ ap (offsetOf s at) (sym (suc-add k i))
-
 -- some of so many records, from the k-th on
 pub stand-from : {s : List ℕ} {first count : ℕ} → SlotsStand s first count → {at : ℕ} (k n : ℕ) → at ≡ offsetOf s first k → k + n ≤ count
     → SlotsStand s at n
 stand-from {s} {first} p k n e h = record {
-  each = λ i l. subst (SlotStands s) (sym (ap (λ (a : ℕ). offsetOf s a i) e ∙ offset-add s first k i)) (p .each (k + i) (omega arith));
+  each = λ i l. subst (SlotStands s) (offset-add s first k i ∙ ap (λ (a : ℕ). offsetOf s a i) (sym e)) (p .each (k + i) (omega arith));
 }
 
 -- ---- the bits of one word: k of n records are passed, the next stands at an offset, and the bits are b
@@ -131,7 +127,7 @@ module _ {s : List ℕ} {first n : ℕ} {l : List ℕ} {base w : ℕ} (room : ba
       let q : n - k ≡ m + (n - (k + m)) = omega arith in
       record {
         below = km;
-        place = en ∙ ap (λ (a : ℕ). offsetOf s a m) (g .place) ∙ offset-add s first k m;
+        place = en ∙ ap (λ (a : ℕ). offsetOf s a m) (g .place) ∙ sym (offset-add s first k m);
         long = ap length is-y ∙ length-patched x base z (omega arith) ∙ g .long;
         is = g .is
             ∙ ap (λ (c : ℕ). patched x base (insertedHosts (recordsFrom (slotOf s) s at c) k (row x base w))) q
@@ -139,3 +135,22 @@ module _ {s : List ℕ} {first n : ℕ} {l : List ℕ} {base w : ℕ} (room : ba
             ∙ ap (λ (a : ℕ). patched x base (insertedHosts (recordsFrom (slotOf s) s a (n - (k + m))) (k + m) z)) (sym en)
             ∙ sym (rw is-y (replaced x base w (insertedHosts rest (k + m)) z inside long-z (length-hosts rest (k + m) z)));
       }
+
+-- ---- slots behind the last host slot
+no-hosts : (s : List ℕ) (n at k : ℕ) (ws : List ℕ) → ((i : ℕ) → i < n → isHost (slotOf s (offsetOf s at i)) ≡ false)
+    → insertedHosts (recordsFrom (slotOf s) s at n) k ws ≡ ws
+unfolding recordsFrom insertedHosts offsetOf
+no-hosts s zero at k ws f = refl
+no-hosts s (suc n) at k ws f =
+    ap (λ (b : Bool). insertedHosts (recordsFrom (slotOf s) s (endAt s at) n) (k + 1) (pick b (inserted ws k) ws)) (f 0 (omega arith))
+    ∙ no-hosts s n (endAt s at) (k + 1) ws (λ i h. f (suc i) (omega arith))
+
+-- are not put in
+pub hosts-first : (s : List ℕ) (at m n : ℕ) (ws : List ℕ) → m ≤ n → ((k : ℕ) → m ≤ k → k < n → isHost (slotOf s (offsetOf s at k)) ≡ false)
+    → insertedHosts (recordsFrom (slotOf s) s at m) 0 ws ≡ insertedHosts (recordsFrom (slotOf s) s at n) 0 ws
+hosts-first s at m n ws h f =
+    let q : n ≡ m + (n - m) = omega arith in
+    sym (ap (λ (c : ℕ). insertedHosts (recordsFrom (slotOf s) s at c) 0 ws) q
+    ∙ hosts-split s at m (n - m) 0 ws
+    ∙ no-hosts s (n - m) (offsetOf s at m) (0 + m) (insertedHosts (recordsFrom (slotOf s) s at m) 0 ws)
+    (λ i l. ap (λ (a : ℕ). isHost (slotOf s a)) (sym (offset-add s at m i)) ∙ f (m + i) (omega arith) (omega arith)))

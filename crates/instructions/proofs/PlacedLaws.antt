@@ -1,24 +1,27 @@
 -- An instruction and a slot as the code holds them. Assumes nothing.
 use mathlib.Core.Path.{_≡_, refl, ap, sym, _∙_}
-use mathlib.Core.Bool.{Bool, false, _||_}
+use mathlib.Core.Bool.{Bool, true, false, _||_}
 use mathlib.Core.List.{List}
-use Prim.Native.Nat.{ℕ, zero, suc, _+_, _-_, _/_, _≤_, _<_}
+use Prim.Native.Nat.{ℕ, _+_, _-_, _/_, _≤_, _<_}
 use native.Mathlib.Omega.{arith}
-use borrow.Author.Tests.{ne-eqb}
-use lib.Dec.{eqb}
-use lib.ListN.{getD}
+use borrow.Author.Tests.{ne-eqb, eqb-true, eqb-false, leb-true, leb-false}
+use lib.Dec.{eqb, leb}
+use lib.ListN.{length, getD}
 use Rattle.operands.specs.Patterns.{wordOf}
 use Rattle.operands.specs.Instructions.{Known}
 use Rattle.operands.specs.declared.pattern.Pattern.{Pattern}
 use Rattle.format.specs.declared.types.Typed.the-variants.{Got, BadType}
 use Rattle.format.specs.Types.{Ty, inlineHost, Read, got, unfit, typedOf, typeAt, wholeType}
 use Rattle.format.specs.Heads.{u16At, kindAt, endAt}
-use Rattle.format.proofs.TypeLaws.{plain-type, cut, no-type, whole-absent, whole-deep}
+use Rattle.format.proofs.HeadLaws.{lies}
+use Rattle.format.proofs.TypeLaws.{cut, no-type, whole-deep}
+use Rattle.records.specs.Records.{plainSlot}
+use Rattle.records.proofs.PlainLaws.{plain, byte-type}
 use Rattle.sheet.specs.Decode.{typeIn, slotOf}
 use Rattle.instructions.specs.declared.placed.Placed.{Placed}
 use Rattle.instructions.specs.declared.slot.SlotRecord.{SlotRecord}
 use Rattle.instructions.specs.Placed.{placedAt}
-use Rattle.instructions.specs.Slots.{slotRecordAt}
+use Rattle.instructions.specs.Slots.{isHost, SlotStands, slotRecordAt}
 
 -- a kind of the table with its own pattern is told by its kind
 pub pattern-is : (p : Pattern) (k : ℕ) → p .kind ≡ k → Known p → p ≡ record { kind = k; word = wordOf k }
@@ -51,36 +54,24 @@ host-none unfit e = refl
 
 -- a type in one byte
 pub byte-host : (s : List ℕ) (at : ℕ) → inlineHost (typeIn (wholeType s (at + 1) at)) ≡ (eqb (getD s at 0) 2 || eqb (getD s at 0) 3)
-byte-host s at = go (getD s at 0) refl
+byte-host s at = go (leb (getD s at 0) 3) refl
   where
-    none : (b : ℕ) → BadType ≡ typedOf (wholeType s (at + 1) at) → (eqb b 2 || eqb b 3) ≡ false
-        → inlineHost (typeIn (wholeType s (at + 1) at)) ≡ (eqb b 2 || eqb b 3)
-    none b e q = host-none (wholeType s (at + 1) at) e ∙ sym q
+    bad : 3 < getD s at 0 → (b : Bool) → eqb (getD s at 0) 4 ≡ b → BadType ≡ typedOf (typeAt 16 s (at + 1) at)
+    bad h true b = cut s (at + 1) at (omega arith) 16 (eqb-true (getD s at 0) 4 b) (λ z. omega arith) (omega arith)
+    bad h false b = no-type s (at + 1) at (omega arith) 16 (eqb-false (getD s at 0) 4 b) (λ z. omega arith) (λ z. omega arith)
 
-    no-leaf : (b : ℕ) → 4 < b → (eqb b 2 || eqb b 3) ≡ false
-    no-leaf b h = rw (ne-eqb b 2 (λ z. omega arith), ne-eqb b 3 (λ z. omega arith))
+    go : (b : Bool) → leb (getD s at 0) 3 ≡ b → inlineHost (typeIn (wholeType s (at + 1) at)) ≡ (eqb (getD s at 0) 2 || eqb (getD s at 0) 3)
+    go true b =
+        host-is (wholeType s (at + 1) at) (at + 1) (eqb (getD s at 0) 2 || eqb (getD s at 0) 3)
+        (byte-type s (at + 1) at (omega arith) (leb-true (getD s at 0) 3 b))
+    go false b =
+        let h = leb-false (getD s at 0) 3 b in
+        host-none (wholeType s (at + 1) at) (bad h (eqb (getD s at 0) 4) refl ∙ whole-deep s (at + 1) at (omega arith) (λ z. omega arith))
+        ∙ sym (rw (ne-eqb (getD s at 0) 2 (λ z. omega arith), ne-eqb (getD s at 0) 3 (λ z. omega arith)))
 
-    deep : (b : ℕ) → getD s at 0 ≡ b → (b ≡ 0 → ⊥) → typedOf (typeAt 16 s (at + 1) at) ≡ typedOf (wholeType s (at + 1) at)
-    deep b e n = whole-deep s (at + 1) at (omega arith) (λ q. n (sym e ∙ q))
-
-    leaf : (b : ℕ) → getD s at 0 ≡ b → 1 ≤ b → b ≤ 3 → inlineHost (typeIn (wholeType s (at + 1) at)) ≡ (eqb b 2 || eqb b 3)
-    leaf b e l h =
-        let q = plain-type s (at + 1) at (omega arith) 16 (omega arith) (omega arith) in
-        host-is (wholeType s (at + 1) at) (at + 1) (eqb b 2 || eqb b 3)
-        (ap (λ (x : ℕ). Got (at + 1) (eqb x 2 || eqb x 3)) (sym e) ∙ sym q ∙ deep b e (λ z. omega arith))
-
-    go : (b : ℕ) → getD s at 0 ≡ b → inlineHost (typeIn (wholeType s (at + 1) at)) ≡ (eqb b 2 || eqb b 3)
-    go zero e = host-is (wholeType s (at + 1) at) (at + 1) false (whole-absent s (at + 1) at (omega arith) e)
-    go (suc zero) e = leaf 1 e (omega arith) (omega arith)
-    go (suc (suc zero)) e = leaf 2 e (omega arith) (omega arith)
-    go (suc (suc (suc zero))) e = leaf 3 e (omega arith) (omega arith)
-    go (suc (suc (suc (suc zero)))) e =
-        none 4 (cut s (at + 1) at (omega arith) 16 e (λ z. omega arith) (omega arith) ∙ deep 4 e (λ z. omega arith)) refl
-    go (suc (suc (suc (suc (suc b))))) e =
-        none (suc (suc (suc (suc (suc b)))))
-        (no-type s (at + 1) at (omega arith) 16 (λ z. omega arith) (λ z. omega arith) (λ z. omega arith)
-        ∙ deep (suc (suc (suc (suc (suc b))))) e (λ z. omega arith))
-        (no-leaf (suc (suc (suc (suc (suc b))))) (omega arith))
+-- a body of two bytes lies in the sheet
+pub two-bytes : (s : List ℕ) (at : ℕ) → SlotStands s at → u16At s at ≡ 4 → at + 6 ≤ length s
+two-bytes s at h e = let w = lies s at (h .whole) in omega (arith, w .within)
 
 -- what is made of a body of two bytes is the slot there
 pub plain-made : (s : List ℕ) (at : ℕ) → u16At s at ≡ 4
@@ -93,3 +84,13 @@ plain-made s at e =
     let r : at + 5 + 1 ≡ endAt s at = omega arith in
     let h = rw r at (byte-host s (at + 5)) in
     rw (q, ← h)
+
+-- a slot with a plain record below the host types is no host slot
+pub no-host : (s : List ℕ) (at : ℕ) → plainSlot s 1 at ≡ true → isHost (slotOf s at) ≡ false
+unfolding isHost
+no-host s at e =
+    let p = plain s 1 at e in
+    let r : at + 5 + 1 ≡ endAt s at = omega (arith, p .long) in
+    let h = rw r at (byte-host s (at + 5)) in
+    rw (ne-eqb (getD s (at + 4) 0) 10 (λ z. omega (arith, p .physical)), h)
+    (rw (ne-eqb (getD s (at + 5) 0) 2 (λ z. omega (arith, p .type)), ne-eqb (getD s (at + 5) 0) 3 (λ z. omega (arith, p .type))))

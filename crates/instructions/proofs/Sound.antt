@@ -39,11 +39,13 @@ use Rattle.sheet.specs.Decode.{
 use Rattle.sheet.specs.declared.script.Checked.{Checked}
 use Rattle.sheet.specs.Checks.{awaitsIn, scriptOf, checkedOf, Checks}
 use Rattle.sheet.proofs.Checked.{clean, each-none, sized, offset-up, passed}
+use Rattle.sheet.proofs.WordLaws.{few-words, behind-words}
 use Rattle.instructions.specs.Placed.{placedAt}
 use Rattle.instructions.specs.Sets.{AllBelow}
 use Rattle.instructions.specs.Sound.{Sound}
 use Rattle.instructions.proofs.Below.{below-nth, none-above}
 use Rattle.instructions.proofs.Operands.{no-field-at, inputs-ok, outputs-ok, targets-ok}
+use Rattle.instructions.proofs.PlacedLaws.{no-host}
 use Rattle.instructions.proofs.SetSteps.{offset-next}
 
 -- what stands in the k-th record
@@ -155,6 +157,8 @@ sound-script s e =
             let q = slot-passed s (offsetOf s (slotsAt s) k) (each-none (λ a. slotFault s a) s (slotsAt s) (slotsIn s) (c .slots-ok) k h) in
             record { whole = q .whole; some-body = q .some-body };
       };
+      few-host-words = omega (arith, few-words s (slotsIn s) (slotsAt s) 0 0 (omega arith));
+      hosts-before = λ k h l. no-host s (offsetOf s (slotsAt s) k) (behind-words s (slotsIn s) (slotsAt s) 0 0 k (omega arith) l);
       slot-is = λ k d h. record-at (slotOf s) s (slotsAt s) (slotsIn s) k d h;
       stands = λ k h. let q = instruction k h in record { whole = q .whole; low = q .low; high = q .high };
       next-is = λ k. sym (offset-next s (codeAt s) k);

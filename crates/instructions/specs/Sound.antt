@@ -1,6 +1,6 @@
 -- What may be relied on of a sheet that passed the checks.
 use mathlib.Core.Path.{_≡_}
-use mathlib.Core.Bool.{true}
+use mathlib.Core.Bool.{true, false}
 use mathlib.Core.List.{List, []}
 use mathlib.Core.Option.{some}
 use Prim.Native.Nat.{ℕ, suc, _+_, _*_, _-_, _≤_, _<_}
@@ -14,7 +14,7 @@ use Rattle.sheet.specs.declared.script.Script.{Script}
 use Rattle.sheet.specs.Decode.{SlotKind, slotOf, instructionOf, recordsFrom, offsetOf, partsOf, parts, decode}
 use Rattle.sheet.specs.Checks.{awaitsIn}
 use Rattle.instructions.specs.Placed.{Stands, placedAt}
-use Rattle.instructions.specs.Slots.{SlotsStand}
+use Rattle.instructions.specs.Slots.{isHost, SlotsStand}
 use Rattle.instructions.specs.Sets.{AllBelow}
 
 -- where the k-th instruction record stands, and its instruction
@@ -52,6 +52,9 @@ pub record Sound (s : List ℕ) (x : Script) : Type 0 where
   -- the slot records stand one after the other, and each holds its slot
   pub slots-stand : SlotsStand s (x .«slots_at») (x .slots)
   pub slot-is : (k : ℕ) (d : SlotKind) → k < x .slots → getD (partsOf s .kinds) k d ≡ slotOf s (offsetOf s (x .«slots_at») k)
+  -- none behind the words of host slots is one
+  pub few-host-words : x .«host_words» ≤ x .slots
+  pub hosts-before : (k : ℕ) → 64 * x .«host_words» ≤ k → k < x .slots → isHost (slotOf s (offsetOf s (x .«slots_at») k)) ≡ false
   -- so do the instruction records, up to the end of the sheet, and each holds its instruction
   pub stands : (k : ℕ) → k < x .count → Stands s (codeOffset s x k)
   pub next-is : (k : ℕ) → placedAt s (codeOffset s x k) .next ≡ codeOffset s x (suc k)

@@ -3,7 +3,7 @@ use crate::slot;
 use operands::instruction;
 use sheet::script::Script;
 ghost use mathlib.Core.Path.{_≡_};
-ghost use Prim.Native.Nat.{_+_, _*_, _%_, _^_, _≤_, _<_, min};
+ghost use Prim.Native.Nat.{_+_, _*_, _%_, _^_, _≤_, _<_};
 ghost use lib.ListN.{length};
 ghost use Rattle.operands.specs.Bytes.{numbersAt};
 ghost use Rattle.operands.specs.Choice.{pick};
@@ -70,16 +70,6 @@ fn host_word(s: &[u8], first: usize, n: usize, word: u64) -> HostWord
     }
 }
 
-// How many of so many slots one word holds.
-fn in_word(left: usize) -> usize
-    ensures { λ r. ⌜ r ≡ min left 64 ⌝ }
-{
-    if left < 64 {
-        return left;
-    }
-    64
-}
-
 // Puts those of so many slots, whose records stand from an offset on, that are host slots into the row at base, a word at a time.
 fn insert_host_slots(s: &[u8], first: usize, count: usize, words: &mut [u64], base: usize, w: usize)
     requires { ⌜ (SlotsStand (now s) first count) × (count ≤ 64 * w) × (base + w ≤ length (now words)) ⌝ }
@@ -89,7 +79,7 @@ fn insert_host_slots(s: &[u8], first: usize, count: usize, words: &mut [u64], ba
     let mut k = 0;
     let mut j = 0;
     while k < count {
-        let n = in_word(count - k);
+        let n = records::record::smaller(count - k, 64);
         let word = host_word(s, at, n, words[base + j]);
         words[base + j] = word.bits;
         at = word.next;
@@ -98,11 +88,12 @@ fn insert_host_slots(s: &[u8], first: usize, count: usize, words: &mut [u64], ba
     }
 }
 
-// The row at base becomes the set of host slots.
+// The row at base becomes the set of host slots. Behind the words of the script there is none.
 pub fn insert_hosts(s: &[u8], script: Script, words: &mut [u64], base: usize, w: usize)
     requires { ⌜ (Sound (now s) script) × (script .slots ≤ 64 * w) × (base + w ≤ length (now words)) ⌝ }
     ensures { λ _. ⌜ now (words .exit) ≡ patched (now (words .entry)) base (hostRow (partsOf (now (s .entry))) w) ⌝ }
 {
     bitset::fill(words, base, w, 0);
-    insert_host_slots(s, script.slots_at, script.slots, words, base, w);
+    let count = records::record::smaller(script.slots, 64 * script.host_words);
+    insert_host_slots(s, script.slots_at, count, words, base, w);
 }

@@ -5,7 +5,7 @@ use mathlib.Core.List.{List}
 use mathlib.Core.Option.{Option, none}
 use Prim.Native.Nat.{ℕ, _+_, _/_, _%_, _≤_, _<_}
 use native.Mathlib.Omega.{arith}
-use borrow.Author.Tests.{eqb-true, leb-true, leb-false}
+use borrow.Author.Tests.{not-false, eqb-true, leb-true, leb-false}
 use lib.Dec.{eqb, leb, ltb}
 use lib.ListN.{getD}
 use Rattle.operands.specs.Patterns.{fits}
@@ -22,10 +22,6 @@ use Rattle.records.specs.Records.{functionFault, parametersFault, badSlo
 pub none-due : (b : Bool) (r : Refusal) (rest : Option Refusal) → due b r rest ≡ none → (b ≡ false) × (rest ≡ none)
 none-due false r rest e = (refl, e)
 none-due true r rest e = let z : _≡_ {A = ℕ} 0 1 = cc in absurd (omega arith)
-
-pub not-false : (b : Bool) → not b ≡ false → b ≡ true
-not-false true e = refl
-not-false false e = let z : _≡_ {A = ℕ} 0 1 = cc in absurd (omega arith)
 
 pub and-both : (a b : Bool) → (a && b) ≡ true → (a ≡ true) × (b ≡ true)
 and-both true b e = (refl, e)

@@ -45,17 +45,21 @@ slotFault s at =
     (due (badSlot s (at + 4) (endAt s at)) BadBody
     none))
 
--- a slot record of six bytes: length 4, kind 258, a physical byte that fits, and a whole type of one byte
-unfoldable pub plainSlot : List ℕ → ℕ → Bool
-plainSlot s at =
+-- the largest physical byte beside types up to this one: below the host types no host handle, which is 10, counts either
+abbrev pub topPhysical : ℕ → ℕ
+topPhysical top = pick (leb top 1) 9 12
+
+-- a slot record of six bytes: length 4, kind 258, a physical byte that counts, and a whole type of one byte, at most top
+unfoldable pub plainSlot : List ℕ → ℕ → ℕ → Bool
+plainSlot s top at =
     leb (at + 6) (length s)
     && ((eqb (u16At s at) 4 && eqb (kindAt s at) 258)
-    && (leb (getD s (at + 4) 0) 12 && leb (getD s (at + 5) 0) 3))
+    && (leb (getD s (at + 4) 0) (topPhysical top) && leb (getD s (at + 5) 0) top))
 
 -- how many of them stand one after the other from an offset on, at most n
-unfoldable pub plainRun : List ℕ → ℕ → ℕ → ℕ
-plainRun s at zero = 0
-plainRun s at (suc n) = let r = plainRun s (at + 6) n in pick (plainSlot s at) (suc r) 0
+unfoldable pub plainRun : List ℕ → ℕ → ℕ → ℕ → ℕ
+plainRun s top at zero = 0
+plainRun s top at (suc n) = let r = plainRun s top (at + 6) n in pick (plainSlot s top at) (suc r) 0
 
 -- a kind of instruction
 abbrev pub isInstruction : ℕ → Bool
@@ -76,6 +80,12 @@ instructionFault s slots n at =
     (due (anyField (noSlot slots) (kindAt s at) 0 (fieldsAt s at)) NoSuchSlot
     (due (anyField (noTarget n) (kindAt s at) 0 (fieldsAt s at)) NoSuchTarget
     none))))
+
+-- the record of the kind that is due: 256, 257 or 258, and else an instruction
+abbrev pub dueFault : List ℕ → ℕ → ℕ → ℕ → ℕ → Option Refusal
+dueFault s kind slots n at =
+    pick (eqb kind 256) (functionFault s at)
+    (pick (eqb kind 257) (parametersFault s slots at) (pick (eqb kind 258) (slotFault s at) (instructionFault s slots n at)))
 
 -- 3, 7 and 8 of the fields
 abbrev pub fieldsFault : Bool → Bool → Bool → Option Refusal

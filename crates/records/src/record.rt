@@ -12,13 +12,16 @@ ghost use mathlib.Core.Path.{_≡_};
 ghost use Prim.Native.Nat.{_+_, _≤_, min};
 ghost use lib.ListN.{length};
 ghost use Rattle.format.specs.Heads.{kindAt, endAt};
-ghost use Rattle.records.specs.Records.{stepOf, refusalIn, badSlot, plainSlot, plainRun, fieldsFault, functionFault, parametersFault, slotFault, instructionFault};
+ghost use Rattle.records.specs.Records.{stepOf, refusalIn, badSlot, topPhysical, plainSlot, plainRun, fieldsFault, functionFault, parametersFault, slotFault, instructionFault, dueFault};
 
 pub const FUNCTION: usize = 256;
 
 pub const PARAMETERS: usize = 257;
 
 pub const SLOT: usize = 258;
+
+// Stands for the kinds 1 to 41 where an instruction is due.
+pub const INSTRUCTION: usize = 1;
 
 pub enum Step {
     // A record that passed: where the next one begins, and this one's kind.
@@ -39,7 +42,7 @@ impl Step {
 }
 
 // The function record at an offset, its numbers not yet judged.
-pub fn function_record(s: &[u8], at: usize) -> Step
+fn function_record(s: &[u8], at: usize) -> Step
     ensures { λ r. ⌜ r ≡ stepOf (functionFault (now (s .entry)) at) (endAt (now (s .entry)) at) (kindAt (now (s .entry)) at) ⌝ }
 {
     let Head::Record(kind, body, end) = head::head_at(s, at) else {
@@ -55,7 +58,7 @@ pub fn function_record(s: &[u8], at: usize) -> Step
 }
 
 // The parameter record at an offset.
-pub fn parameter_record(s: &[u8], slots: usize, at: usize) -> Step
+fn parameter_record(s: &[u8], slots: usize, at: usize) -> Step
     ensures { λ r. ⌜ r ≡ stepOf (parametersFault (now (s .entry)) slots at) (endAt (now (s .entry)) at) (kindAt (now (s .entry)) at) ⌝ }
 {
     let Head::Record(kind, body, end) = head::head_at(s, at) else {
@@ -92,7 +95,7 @@ fn bad_slot(s: &[u8], body: usize, end: usize) -> bool
 }
 
 // The slot record at an offset.
-pub fn slot_record(s: &[u8], at: usize) -> Step
+fn slot_record(s: &[u8], at: usize) -> Step
     ensures { λ r. ⌜ r ≡ stepOf (slotFault (now (s .entry)) at) (endAt (now (s .entry)) at) (kindAt (now (s .entry)) at) ⌝ }
 {
     let Head::Record(kind, body, end) = head::head_at(s, at) else {
@@ -107,21 +110,38 @@ pub fn slot_record(s: &[u8], at: usize) -> Step
     Step::Next(end, kind)
 }
 
-// Whether six bytes are a slot record with a type of one byte: most are so. Its head is one number: length 4, kind 258.
-fn plain_slot(s: &[u8], at: usize) -> bool
-    requires { ⌜ at + 6 ≤ length (now s) ⌝ }
-    ensures { λ r. ⌜ r ≡ plainSlot (now (s .entry)) at ⌝ }
+fn number(b: u8) -> usize
+    ensures { λ r. ⌜ r ≡ b ⌝ }
+{
+    b as usize
+}
+
+// Whether six bytes are a slot record with a type of one byte: most are so. Its head is one number: length 4, kind 258. The physical byte and the
+// type count up to these.
+fn plain_slot(s: &[u8], physical: usize, top: usize, at: usize) -> bool
+    requires { ⌜ (at + 6 ≤ length (now s)) × (physical ≡ topPhysical top) ⌝ }
+    ensures { λ r. ⌜ r ≡ plainSlot (now (s .entry)) top at ⌝ }
 {
     if bytes::u16_at(s, at) + 65536 * bytes::u16_at(s, at + 2) != 16908292 {
         return false;
     }
-    if 12 < s[at + 4] {
+    if physical < number(s[at + 4]) {
         return false;
     }
-    s[at + 5] <= types::REFERENCE
+    number(s[at + 5]) <= top
 }
 
-fn smaller(a: usize, b: usize) -> usize
+// The largest physical byte beside types up to this one.
+fn top_physical(top: usize) -> usize
+    ensures { λ r. ⌜ r ≡ topPhysical top ⌝ }
+{
+    if top <= types::OTHER as usize {
+        return 9;
+    }
+    12
+}
+
+pub fn smaller(a: usize, b: usize) -> usize
     ensures { λ r. ⌜ r ≡ min a b ⌝ }
 {
     if a < b {
@@ -130,17 +150,18 @@ fn smaller(a: usize, b: usize) -> usize
     b
 }
 
-// How many plain slot records, of six bytes each, stand one after the other from an offset on, at most so many.
-pub fn plain_slots(s: &[u8], most: usize, at: usize) -> usize
-    ensures { λ r. ⌜ r ≡ plainRun (now (s .entry)) at most ⌝ }
+// How many plain slot records, of six bytes each, with types up to this one stand one after the other from an offset on, at most so many.
+pub fn plain_slots(s: &[u8], top: usize, most: usize, at: usize) -> usize
+    ensures { λ r. ⌜ r ≡ plainRun (now (s .entry)) top at most ⌝ }
 {
     if s.len() < at {
         return 0;
     }
     let n = smaller(most, (s.len() - at) / 6);
+    let physical = top_physical(top);
     let mut k = 0;
     while k < n {
-        if !plain_slot(s, at + 6 * k) {
+        if !plain_slot(s, physical, top, at + 6 * k) {
             return k;
         }
         k += 1;
@@ -168,7 +189,7 @@ fn fields_step(f: Faults, end: usize, kind: usize) -> Step
 }
 
 // The instruction record at an offset: kinds 1 to 41, each by its pattern.
-pub fn instruction_record(s: &[u8], slots: usize, count: usize, at: usize) -> Step
+fn instruction_record(s: &[u8], slots: usize, count: usize, at: usize) -> Step
     ensures { λ r. ⌜ r ≡ stepOf (instructionFault (now (s .entry)) slots count at) (endAt (now (s .entry)) at) (kindAt (now (s .entry)) at) ⌝ }
 {
     let Head::Record(kind, body, end) = head::head_at(s, at) else {
@@ -193,4 +214,20 @@ pub fn instruction_record(s: &[u8], slots: usize, count: usize, at: usize) -> St
         );
     }
     Step::Stop(Refusal::BadBody)
+}
+
+// The record at an offset, by the kind that is due there. The slot count and the instruction count matter where a record names slots or targets.
+pub fn due_record(s: &[u8], kind: usize, slots: usize, count: usize, at: usize) -> Step
+    ensures { λ r. ⌜ r ≡ stepOf (dueFault (now (s .entry)) kind slots count at) (endAt (now (s .entry)) at) (kindAt (now (s .entry)) at) ⌝ }
+{
+    if kind == FUNCTION {
+        return function_record(s, at);
+    }
+    if kind == PARAMETERS {
+        return parameter_record(s, slots, at);
+    }
+    if kind == SLOT {
+        return slot_record(s, at);
+    }
+    instruction_record(s, slots, count, at)
 }

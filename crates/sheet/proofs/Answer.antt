@@ -42,12 +42,8 @@ use Rattle.sheet.specs.Decode.{
   partsOf,
 }
 use Rattle.sheet.specs.Stages.{firstOf, lastKind, awaitsFrom, oneIf, answer, withCode, atEnd, atCode, atSlots, atParameters, atSizes}
-use Rattle.sheet.specs.Checks.{awaitsIn, scriptOf, checkedBy, checkedOf}
-
--- the first refusal of three
-or-first : (a b c : Option Refusal) → orElse (orElse a b) c ≡ orElse a (orElse b c)
-or-first none b c = refl
-or-first (some r) b c = refl
+use Rattle.sheet.specs.Checks.{hostWords, awaitsIn, scriptOf, checkedBy, checkedOf}
+use Rattle.sheet.proofs.WalkLaws.{or-first}
 
 -- records of one sort, and then others
 same-first : (s : List ℕ) (d : Due) (ds : List Due) (at n : ℕ)
@@ -124,8 +120,8 @@ some-code slots n e =
 module _ (s : List ℕ) where
   -- after the last record
   ended : 1 ≤ countIn s
-      → atEnd s (withCode (scriptOf s) (codeAt s) (awaitsFrom s (codeAt s) (countIn s))) (instructionAt s (countIn s))
-      (lastKind s (codeAt s) (countIn s) 0)
+      → atEnd s (withCode (scriptOf s) (codeAt s) (hostWords s (slotsAt s) (slotsIn s) 0 0) (awaitsFrom s (codeAt s) (countIn s)))
+      (instructionAt s (countIn s)) (lastKind s (codeAt s) (countIn s) 0)
       ≡ checkedBy (endFault s) (idIn s) (scriptOf s)
   unfolding atEnd endFault scriptOf partsOf
   ended h =

@@ -5,7 +5,7 @@ use mathlib.Core.List.{List}
 use mathlib.Core.Option.{Option, none, some}
 use Prim.Native.Nat.{ℕ, zero, suc, _-_, _≤_, _<_}
 use native.Mathlib.Omega.{arith}
-use borrow.Author.Tests.{eqb-true, ltb-false}
+use borrow.Author.Tests.{not-false, eqb-true, ltb-false}
 use lib.Dec.{eqb, ltb}
 use lib.ListN.{length}
 use Rattle.operands.specs.Kinds.{endsBlock}
@@ -15,7 +15,7 @@ use Rattle.format.specs.Refusals.{due, orElse}
 use Rattle.format.specs.Heads.{kindAt, endAt}
 use Rattle.records.specs.Records.{functionFault, parametersFault}
 use Rattle.format.proofs.Or.{or-none}
-use Rattle.records.proofs.Passed.{none-due, not-false, parameters-passed}
+use Rattle.records.proofs.Passed.{none-due, parameters-passed}
 use Rattle.format.proofs.HeadLaws.{lies}
 use Rattle.sheet.specs.declared.script.Script.{Script}
 use Rattle.sheet.specs.declared.script.Checked.{Checked}

@@ -7,7 +7,7 @@ use mathlib.Core.List.{List, [], _∷_, _++_}
 use mathlib.Core.Option.{Option, none, some}
 use Prim.Native.Nat.{ℕ, zero, suc, _+_, _-_, _<_}
 use native.Mathlib.Omega.{arith}
-use borrow.Author.Tests.{eq-eqb, ne-eqb, eqb-true, eqb-false}
+use borrow.Author.Tests.{not-false, eq-eqb, ne-eqb, eqb-true, eqb-false}
 use lib.Dec.{eqb}
 use lib.ListN.{length, getD, take, drop}
 use Rattle.operands.specs.Kinds.{endsBlock}
@@ -32,7 +32,7 @@ use Rattle.format.specs.declared.refusal.Refusal.the-variants.{
 use Rattle.format.specs.Refusals.{numberOf, due, orElse}
 use Rattle.format.specs.Heads.{kindAt, endAt}
 use Rattle.records.specs.Records.{functionFault, parametersFault, slotFault, instructionFault}
-use Rattle.records.proofs.Passed.{none-due, not-false}
+use Rattle.records.proofs.Passed.{none-due}
 use Rattle.sheet.specs.Decode.{
   countIn,
   Due,

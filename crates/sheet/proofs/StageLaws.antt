@@ -1,4 +1,4 @@
--- The answers of the walk over the instruction records, and of the stages. Assumes nothing.
+-- The answers of the walks over the slot records and over the instruction records, and of the stages. Assumes nothing.
 use mathlib.Core.Path.{_≡_, refl, ap, sym}
 use mathlib.Core.Bool.{true, false}
 use mathlib.Core.List.{List}
@@ -13,9 +13,28 @@ use Rattle.format.specs.declared.refusal.Refusal.the-variants.{LeftOver, TooMan
 use Rattle.sheet.specs.declared.script.Script.{Script}
 use Rattle.sheet.specs.declared.script.Checked.{Checked}
 use Rattle.sheet.specs.declared.script.Checked.the-variants.{Passed, Refused}
+use Rattle.sheet.specs.declared.walk.Slots.the-variants.{Through, Halt}
 use Rattle.sheet.specs.declared.walk.Code.the-variants.{Ended, Stop}
 use Rattle.sheet.specs.Decode.{sizesFault}
-use Rattle.sheet.specs.Stages.{codeOf, answer, atEnd}
+use Rattle.sheet.specs.Stages.{slotsOf, codeOf, answer, atEnd}
+
+-- all slot records passed
+pub record SlotsWent (f : Option Refusal) (end words x y : ℕ) : Type 0 where
+  pub no-fault : f ≡ none
+  pub is-end : x ≡ end
+  pub is-words : y ≡ words
+
+pub slots-went : (f : Option Refusal) (end words x y : ℕ) → Through x y ≡ slotsOf f end words → SlotsWent f end words x y
+slots-went none end words x y e =
+    let p : x ≡ end = cc in
+    let q : y ≡ words = cc in
+    record { no-fault = refl; is-end = p; is-words = q }
+slots-went (some r) end words x y e = let n : _≡_ {A = ℕ} 0 1 = cc in absurd (omega arith)
+
+-- or one did not
+pub slot-halted : (f : Option Refusal) (end words : ℕ) (r : Refusal) → Halt r ≡ slotsOf f end words → f ≡ some r
+slot-halted none end words r e = let z : _≡_ {A = ℕ} 0 1 = cc in absurd (omega arith)
+slot-halted (some q) end words r e = let p : r ≡ q = cc in ap some (sym p)
 
 -- all instruction records passed
 pub record AllWent (f : Option Refusal) (end last awaits x y z : ℕ) : Type 0 where

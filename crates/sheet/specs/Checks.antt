@@ -2,13 +2,14 @@
 use mathlib.Core.Path.{_≡_}
 use mathlib.Core.List.{List, [], _∷_}
 use mathlib.Core.Option.{Option, none, some}
-use Prim.Native.Nat.{ℕ, _+_, _*_, _/_, _≤_}
+use Prim.Native.Nat.{ℕ, zero, suc, _+_, _*_, _/_, _≤_}
 use lib.ListN.{length}
 use Rattle.operands.specs.Choice.{pick}
 use Rattle.operands.specs.Kinds.{isAwait}
 use Rattle.format.specs.declared.refusal.Refusal.{Refusal}
 use Rattle.format.specs.Refusals.{numberOf}
-use Rattle.format.specs.Heads.{bodyLength}
+use Rattle.format.specs.Heads.{endAt, bodyLength}
+use Rattle.records.specs.Records.{plainSlot}
 use Rattle.sheet.specs.declared.script.Script.{Script}
 use Rattle.sheet.specs.declared.script.Checked.{Checked}
 use Rattle.sheet.specs.declared.script.Checked.the-variants.{Passed, Refused}
@@ -34,6 +35,12 @@ unfoldable pub awaitsIn : List Instruction → ℕ
 awaitsIn [] = 0
 awaitsIn (i ∷ is) = pick (isAwait (i .kind)) 1 0 + awaitsIn is
 
+-- The words of slots up to the last slot that may be a host slot: behind them each has a plain record below the host types. Of n slots, the
+-- first is slot i, with its record at an offset; m words are so up to there.
+unfoldable pub hostWords : List ℕ → ℕ → ℕ → ℕ → ℕ → ℕ
+hostWords s at zero i m = m
+hostWords s at (suc n) i m = hostWords s (endAt s at) n (suc i) (pick (plainSlot s 1 at) m (i / 64 + 1))
+
 -- what the code keeps of a sheet that passes
 unfoldable pub scriptOf : List ℕ → Script
 scriptOf s = record {
@@ -44,6 +51,7 @@ scriptOf s = record {
   params = bodyLength s (parametersAt s) / 4;
   «slots_at» = slotsAt s;
   «code_at» = codeAt s;
+  «host_words» = hostWords s (slotsAt s) (slotsIn s) 0 0;
   awaits = awaitsIn (partsOf s .code);
 }
 

@@ -16,9 +16,12 @@ use Rattle.records.specs.Records.{parametersFault, slotFault, instructionFault,
 use Rattle.sheet.specs.declared.script.Script.{Script}
 use Rattle.sheet.specs.declared.script.Checked.{Checked}
 use Rattle.sheet.specs.declared.script.Checked.the-variants.{Passed, Refused}
+use Rattle.sheet.specs.declared.walk.Slots.{Slots}
+use Rattle.sheet.specs.declared.walk.Slots.the-variants.{Through, Halt}
 use Rattle.sheet.specs.declared.walk.Code.{Code}
 use Rattle.sheet.specs.declared.walk.Code.the-variants.{Ended, Stop}
 use Rattle.sheet.specs.Decode.{sizesFault, offsetOf}
+use Rattle.sheet.specs.Checks.{hostWords}
 
 -- the first bad one of n records of one sort, from an offset on
 unfoldable pub firstOf : (ℕ → Option Refusal) → List ℕ → ℕ → ℕ → Option Refusal
@@ -38,8 +41,19 @@ unfoldable pub awaitsFrom : List ℕ → ℕ → ℕ → ℕ
 awaitsFrom s at zero = 0
 awaitsFrom s at (suc n) = oneIf (isAwait (kindAt s at)) + awaitsFrom s (endAt s at) n
 
-abbrev pub walkedSlots : List ℕ → ℕ → ℕ → Step
-walkedSlots s slots at = stepOf (firstOf (λ a. slotFault s a) s at slots) (offsetOf s at slots) 258
+abbrev pub anySlots : List ℕ → ℕ → ℕ → Step
+anySlots s slots at = stepOf (firstOf (λ a. slotFault s a) s at slots) (offsetOf s at slots) 258
+
+abbrev pub slotsOf : Option Refusal → ℕ → ℕ → Slots
+slotsOf (some r) end words = Halt r
+slotsOf none end words = Through end words
+
+abbrev pub walkedSlots : List ℕ → ℕ → ℕ → Slots
+walkedSlots s slots at = slotsOf (firstOf (λ a. slotFault s a) s at slots) (offsetOf s at slots) (hostWords s at slots 0 0)
+
+abbrev pub refusalInSlots : Slots → Refusal
+refusalInSlots (Halt r) = r
+refusalInSlots (Through end words) = ShortSheet
 
 abbrev pub codeOf : Option Refusal → ℕ → ℕ → ℕ → Code
 codeOf (some r) end last awaits = Stop r
@@ -58,9 +72,9 @@ abbrev pub answer : Option Refusal → ℕ → Checked → Checked
 answer (some r) id rest = Refused r id
 answer none id rest = rest
 
--- a script with the place of its instructions, and with the number of its awaits
-abbrev pub withCode : Script → ℕ → ℕ → Script
-withCode x at awaits = record {
+-- a script with the place of its instructions, the words of its host slots, and the number of its awaits
+abbrev pub withCode : Script → ℕ → ℕ → ℕ → Script
+withCode x at words awaits = record {
   id = x .id;
   slots = x .slots;
   count = x .count;
@@ -68,6 +82,7 @@ withCode x at awaits = record {
   params = x .params;
   «slots_at» = x .«slots_at»;
   «code_at» = at;
+  «host_words» = words;
   awaits = awaits;
 }
 
@@ -80,14 +95,14 @@ atEnd s x end last =
 unfoldable pub atCode : List ℕ → Script → Checked
 atCode s x =
     answer (firstOf (λ a. instructionFault s (x .slots) (x .count) a) s (x .«code_at») (x .count)) (x .id)
-    (atEnd s (withCode x (x .«code_at») (awaitsFrom s (x .«code_at») (x .count))) (offsetOf s (x .«code_at») (x .count))
+    (atEnd s (withCode x (x .«code_at») (x .«host_words») (awaitsFrom s (x .«code_at») (x .count))) (offsetOf s (x .«code_at») (x .count))
     (lastKind s (x .«code_at») (x .count) 0))
 
 -- the slot records
 unfoldable pub atSlots : List ℕ → Script → Checked
 atSlots s x =
     answer (firstOf (λ a. slotFault s a) s (x .«slots_at») (x .slots)) (x .id)
-    (atCode s (withCode x (offsetOf s (x .«slots_at») (x .slots)) 0))
+    (atCode s (withCode x (offsetOf s (x .«slots_at») (x .slots)) (hostWords s (x .«slots_at») (x .slots) 0 0) 0))
 
 -- the parameter record
 unfoldable pub atParameters : List ℕ → ℕ → ℕ → ℕ → ℕ → Checked
@@ -101,6 +116,7 @@ atParameters s id slots n at =
       params = (endAt s at - (at + 4)) / 4;
       «slots_at» = endAt s at;
       «code_at» = 0;
+      «host_words» = 0;
       awaits = 0;
     }))
 

@@ -5,10 +5,12 @@ pub mod walk;
 use format::refusal::Refusal;
 use operands::instruction;
 use operands::kinds;
+use records::record;
 use records::record::Step;
 use script::Checked;
 use script::Script;
 use walk::Code;
+use walk::Slots;
 ghost use mathlib.Core.Path.{_≡_};
 ghost use Rattle.sheet.specs.Checks.{Checks};
 ghost use Rattle.sheet.specs.Stages.{atEnd, atCode, atSlots, atParameters, atSizes};
@@ -44,6 +46,7 @@ fn check_code(s: &[u8], script: Script) -> Checked
             params: script.params,
             slots_at: script.slots_at,
             code_at: script.code_at,
+            host_words: script.host_words,
             awaits: awaits,
         },
         end,
@@ -55,9 +58,9 @@ fn check_code(s: &[u8], script: Script) -> Checked
 fn check_slots(s: &[u8], script: Script) -> Checked
     ensures { λ r. ⌜ r ≡ atSlots (now (s .entry)) script ⌝ }
 {
-    let step = walk::walk_slots(s, script.slots, script.slots_at);
-    let Step::Next(next, _) = step else {
-        return Checked::Refused(step.refusal(), script.id);
+    let walked = walk::walk_slots(s, script.slots, script.slots_at);
+    let Slots::Through(next, words) = walked else {
+        return Checked::Refused(walked.refusal(), script.id);
     };
     check_code(
         s,
@@ -69,6 +72,7 @@ fn check_slots(s: &[u8], script: Script) -> Checked
             params: script.params,
             slots_at: script.slots_at,
             code_at: next,
+            host_words: words,
             awaits: 0,
         },
     )
@@ -78,7 +82,7 @@ fn check_slots(s: &[u8], script: Script) -> Checked
 fn check_parameters(s: &[u8], id: u32, slots: usize, count: usize, at: usize) -> Checked
     ensures { λ r. ⌜ r ≡ atParameters (now (s .entry)) id slots count at ⌝ }
 {
-    let step = reader::parameters_at(s, slots, at);
+    let step = reader::due_at(s, record::PARAMETERS, slots, count, at);
     let Step::Next(next, _) = step else {
         return Checked::Refused(step.refusal(), id);
     };
@@ -92,6 +96,7 @@ fn check_parameters(s: &[u8], id: u32, slots: usize, count: usize, at: usize) ->
             params: (next - (at + 4)) / 4,
             slots_at: next,
             code_at: 0,
+            host_words: 0,
             awaits: 0,
         },
     )
@@ -117,7 +122,7 @@ fn check_sizes(s: &[u8], id: u32, slots: usize, count: usize, at: usize) -> Chec
 pub fn check(s: &[u8]) -> Checked
     ensures { λ r. ⌜ Checks (now (s .entry)) r ⌝ }
 {
-    let step = reader::function_at(s, 0);
+    let step = reader::due_at(s, record::FUNCTION, 0, 0, 0);
     let Step::Next(next, _) = step else {
         return Checked::Refused(step.refusal(), 0);
     };

@@ -13,6 +13,8 @@ pub struct Script {
     // where the slot records begin, and where the instruction records do
     pub slots_at: usize,
     pub code_at: usize,
+    // no slot behind these first words of slots is a host slot
+    pub host_words: usize,
     // how many instructions are awaits, reached or not
     pub awaits: usize,
 }

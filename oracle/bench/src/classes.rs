@@ -2,6 +2,7 @@
 
 use compare_flow::generate::shapes::{SHAPES, Shape, script, sparse};
 use kagari_oracle::Script;
+use kagari_oracle::cases::host;
 
 /// The instruction counts of the table.
 const COUNTS: [u32; 4] = [16, 256, 4_096, 65_536];
@@ -45,7 +46,24 @@ pub fn table() -> Vec<Class> {
             }
         }
     }
+    classes.push(hosts());
     classes
+}
+
+/// The script with awaits and very many slots, in which every second slot that no
+/// instruction names is a host slot.
+fn hosts() -> Class {
+    let (count, slots) = (COUNTS[0], MOST_SLOTS);
+    let mut script = script(Shape::Awaits, count, slots);
+    let unused = script.slots.iter_mut().skip(4 * count as usize);
+    for slot in unused.step_by(2) {
+        *slot = host();
+    }
+    Class {
+        name: format!("hosts-{count}-{slots}"),
+        shape: "awaits",
+        script,
+    }
 }
 
 /// The class of this name.

@@ -59,7 +59,7 @@ abbrev B : Lfts 1 → RattleType
 B κs = T.the-row (namedLft 1 0 tt κs)
 
 abbrev stayed : Stays (f.ended .signature .params) (f.ended .kept)
-stayed = (stay-none-slice (0 ∷ []) tt (plain (λ _. u8)) yes, (stay-none (λ _. usize) yes, (stay-none (λ _. usize) yes, tt)))
+stayed = (stay-none-slice (0 ∷ []) tt (plain (λ _. u8)) yes, (stay-none (λ _. usize) yes, (stay-none (λ _. usize) yes, (stay-none (λ _. usize) yes, tt))))
 
 module _ {M : Type 1} (𝓤 : URA M) (H : Heap 𝓤) (A : Atoms 𝓤) (mem : Memory → SProp 𝓤) (run : Routine → Fun 𝓤) where
   -- the contracts that the proof cites
@@ -69,23 +69,23 @@ module _ {M : Type 1} (𝓤 : URA M) (H : Heap 𝓤) (A : Atoms 𝓤) (mem : Mem
   abbrev PlainSlots : Contract 𝓤
   PlainSlots = tripleOf 𝓤 H A plain-slots.signature (plain-slots.spec 𝓤 H A mem run)
 
-module _ {M : Type 1} (𝓤 : URA M) (H : Heap 𝓤) (A : Atoms 𝓤) (W : Given 𝓤 H A) (mem : Memory → SProp 𝓤) (run : Routine → Fun 𝓤) (κ : Lft) (q : Share) (s : RefT (List ℕ)) (most at : ℕ) (most-fits : most < 2 ^ 64) (at-fits : at < 2 ^ 64) where
+module _ {M : Type 1} (𝓤 : URA M) (H : Heap 𝓤) (A : Atoms 𝓤) (W : Given 𝓤 H A) (mem : Memory → SProp 𝓤) (run : Routine → Fun 𝓤) (κ : Lft) (q : Share) (s : RefT (List ℕ)) (top most at : ℕ) (top-fits : top < 2 ^ 64) (most-fits : most < 2 ^ 64) (at-fits : at < 2 ^ 64) where
   -- the machine values that are passed
   abbrev v : Val
   v = sliceVal (s .ptr) (length (s .now))
 
   abbrev vs : Vals f.signature (κ, tt)
-  vs = (v ∷ [], (vint w64 most ∷ [], (vint w64 at ∷ [], tt)))
+  vs = (v ∷ [], (vint w64 top ∷ [], (vint w64 most ∷ [], (vint w64 at ∷ [], tt))))
 
   abbrev found : ℕ
-  found = plainRun (now s) at most
+  found = plainRun (now s) top at most
 
   -- the struct's type as a local of a body has it
   abbrev αᵉ : NamedLft
   αᵉ = record { mir = erased; lft = κ }
 
   abbrev Post : Val → SProp 𝓤
-  Post = walkOf 𝓤 H A f.ended stayed (f.clauses 𝓤 H A mem run) .post (((κ, tt), (q, tt), tt, (s, (most, (at, tt))), vs), tt)
+  Post = walkOf 𝓤 H A f.ended stayed (f.clauses 𝓤 H A mem run) .post (((κ, tt), (q, tt), tt, (s, (top, (most, (at, tt)))), vs), tt)
 
   abbrev Own : Fml
   Own = ShrSlice (named 0) κ u8 .own s (v ∷ [])
@@ -94,9 +94,9 @@ module _ {M : Type 1} (𝓤 : URA M) (H : Heap 𝓤) (A : Atoms 𝓤) (W : Given
   abbrev to-new : New 𝓤 H A mem run .Ghost
   to-new = (((κ, tt), (q, tt), tt, (s, (at, tt)), (v ∷ [], (vint w64 at ∷ [], tt))), tt)
 
-  goes-new : ent 𝓤 (onEntry 𝓤 H A f.signature (κ, tt) (q, tt) (s, (most, (at, tt))) vs) (sep 𝓤 (New 𝓤 H A mem run .pre to-new) (sem 𝓤 H A Own))
+  goes-new : ent 𝓤 (onEntry 𝓤 H A f.signature (κ, tt) (q, tt) (s, (top, (most, (at, tt)))) vs) (sep 𝓤 (New 𝓤 H A mem run .pre to-new) (sem 𝓤 H A Own))
   goes-new =
-      qed W ((‵ (flft κ q) ⊛ ‵ ftrue) ∷ ‵ (owns (ShrSlice (named 0) κ u8 ∷ usize ∷ usize ∷ []) (s, (most, (at, tt))) vs) ∷ []) ∵
+      qed W ((‵ (flft κ q) ⊛ ‵ ftrue) ∷ ‵ (owns (ShrSlice (named 0) κ u8 ∷ usize ∷ usize ∷ usize ∷ []) (s, (top, (most, (at, tt)))) vs) ∷ []) ∵
       move ! (1 ∷ []) $ fsplit ! $ move ! (1 ∷ []) $ drop ! $ use1 W (‵ Own ⊛ ‵ Own) (shr-slice-copy 𝓤 H A W (named 0) κ u8 .twice s (v ∷ [])) $ split ! $
       -- [what s owns; the same; the token]
       nothing ! $ owned ! usize (Is usize) (uint-makes 𝓤 H A W w64) at _ (refl, at-fits) $ fjoin ! $ move ! (1 ∷ 0 ∷ []) $ fjoin ! $ move ! (2 ∷ 0 ∷ []) $ use2 W (raw (New 𝓤 H A mem run .pre to-new)) (qed W ((‵ (flft κ q) ⊛ ‵ ftrue) ∷ ‵ (owns (ShrSlice (named 0) κ u8 ∷ usize ∷ []) (s, (at, tt)) (v ∷ [], (vint w64 at ∷ [], tt))) ∷ []) ∵ join ! $ frame ! $ done !) $ frame ! $ done !
@@ -106,54 +106,54 @@ module _ {M : Type 1} (𝓤 : URA M) (H : Heap 𝓤) (A : Atoms 𝓤) (W : Given
 
   -- the call of `plain_slots`, at the struct r with the machine value u
   abbrev to-plain-slots : Reader → Val → PlainSlots 𝓤 H A mem run .Ghost
-  to-plain-slots r u = (((κ, tt), (q, tt), tt, (r, (most, tt)), (u ∷ [], (vint w64 most ∷ [], tt))), tt)
+  to-plain-slots r u = (((κ, tt), (q, tt), tt, (r, (top, (most, tt))), (u ∷ [], (vint w64 top ∷ [], (vint w64 most ∷ [], tt)))), tt)
 
   goes-plain-slots : (r : Reader) (u : Val) → ent 𝓤 (⋆ 𝓤 H A (‵ (B (κ, tt) .own r (u ∷ [])) ∷ (‵ (flft κ q) ⊛ ‵ ftrue) ∷ [])) (PlainSlots 𝓤 H A mem run .pre (to-plain-slots r u))
-  goes-plain-slots r u = qed W (‵ (B (κ, tt) .own r (u ∷ [])) ∷ (‵ (flft κ q) ⊛ ‵ ftrue) ∷ []) ∵ nothing ! $ owned ! usize (Is usize) (uint-makes 𝓤 H A W w64) most _ (refl, most-fits) $ fjoin ! $ move ! (1 ∷ 0 ∷ []) $ fjoin ! $ move ! (1 ∷ 0 ∷ []) $ join ! $ frame ! $ done !
+  goes-plain-slots r u = qed W (‵ (B (κ, tt) .own r (u ∷ [])) ∷ (‵ (flft κ q) ⊛ ‵ ftrue) ∷ []) ∵ nothing ! $ owned ! usize (Is usize) (uint-makes 𝓤 H A W w64) most _ (refl, most-fits) $ fjoin ! $ owned ! usize (Is usize) (uint-makes 𝓤 H A W w64) top _ (refl, top-fits) $ fjoin ! $ move ! (1 ∷ 0 ∷ []) $ fjoin ! $ move ! (1 ∷ 0 ∷ []) $ join ! $ frame ! $ done !
 
-  plain-slots-said : (r : Reader) (t : ℕ) → ent 𝓤 (ensured 𝓤 H A plain-slots.ended (plain-slots.clauses 𝓤 H A mem run) (κ, tt) (r, (most, tt)) tt t) (fact 𝓤 (t ≡ plainRun (now (r .sheet)) (r .at) most))
-  plain-slots-said r t = exE 𝓤 _ (λ ws. snd∗ 𝓤 (sem 𝓤 H A (lasts plain-slots.ended (κ, tt) (r, (most, tt)) ws)) (fact 𝓤 (t ≡ plainRun (now (r .sheet)) (r .at) most)))
+  plain-slots-said : (r : Reader) (t : ℕ) → ent 𝓤 (ensured 𝓤 H A plain-slots.ended (plain-slots.clauses 𝓤 H A mem run) (κ, tt) (r, (top, (most, tt))) tt t) (fact 𝓤 (t ≡ plainRun (now (r .sheet)) top (r .at) most))
+  plain-slots-said r t = exE 𝓤 _ (λ ws. snd∗ 𝓤 (sem 𝓤 H A (lasts plain-slots.ended (κ, tt) (r, (top, (most, tt))) ws)) (fact 𝓤 (t ≡ plainRun (now (r .sheet)) top (r .at) most)))
 
   exits : (t : ℕ) (u : Val) → t ≡ found → ent 𝓤 (⋆ 𝓤 H A (‵ (usize .own t (u ∷ [])) ∷ (‵ (flft κ q) ⊛ ‵ ftrue) ∷ ‵ Own ∷ [])) (Post u)
   exits t u e =
       qed W (‵ (usize .own t (u ∷ [])) ∷ (‵ (flft κ q) ⊛ ‵ ftrue) ∷ ‵ Own ∷ []) ∵
-      suffices ! _ (ends-at 𝓤 H A f.ended stayed (f.clauses 𝓤 H A mem run) W (((κ, tt), (q, tt), tt, (s, (most, (at, tt))), vs), tt) u t (tt, (tt, (tt, tt))) (tt, (tt, (tt, tt)))) $ says ! e $
-      move ! (1 ∷ []) $ frame ! $ nothing ! $ owned ! usize (Is usize) (uint-makes 𝓤 H A W w64) at _ (refl, at-fits) $ fjoin ! $ owned ! usize (Is usize) (uint-makes 𝓤 H A W w64) most _ (refl, most-fits) $ fjoin ! $ move ! (2 ∷ 0 ∷ []) $ fjoin ! $ frame ! $ done !
+      suffices ! _ (ends-at 𝓤 H A f.ended stayed (f.clauses 𝓤 H A mem run) W (((κ, tt), (q, tt), tt, (s, (top, (most, (at, tt)))), vs), tt) u t (tt, (tt, (tt, (tt, tt)))) (tt, (tt, (tt, (tt, tt))))) $ says ! e $
+      move ! (1 ∷ []) $ frame ! $ nothing ! $ owned ! usize (Is usize) (uint-makes 𝓤 H A W w64) at _ (refl, at-fits) $ fjoin ! $ owned ! usize (Is usize) (uint-makes 𝓤 H A W w64) most _ (refl, most-fits) $ fjoin ! $ owned ! usize (Is usize) (uint-makes 𝓤 H A W w64) top _ (refl, top-fits) $ fjoin ! $ move ! (2 ∷ 0 ∷ []) $ fjoin ! $ frame ! $ done !
 
   module _ (C : Calls 𝓤 H) (Λ : Loops 𝓤 H) (fm : FmC 𝓤 H (W .laws) C) (known-new : Triple 𝓤 (C #reader·new) (New 𝓤 H A mem run)) (known-plain-slots : Triple 𝓤 (C #reader·plain-slots) (PlainSlots 𝓤 H A mem run)) where
-    walk : Is (ShrSlice (named 0) κ u8) s (v ∷ []) → ent 𝓤 (onEntry 𝓤 H A f.signature (κ, tt) (q, tt) (s, (most, (at, tt))) vs) (WpFn 𝓤 H C Λ code.function (v ∷ vint w64 most ∷ vint w64 at ∷ []) Post)
+    walk : Is (ShrSlice (named 0) κ u8) s (v ∷ []) → ent 𝓤 (onEntry 𝓤 H A f.signature (κ, tt) (q, tt) (s, (top, (most, (at, tt)))) vs) (WpFn 𝓤 H C Λ code.function (v ∷ vint w64 top ∷ vint w64 most ∷ vint w64 at ∷ []) Post)
     walk p =
-        qed W (raw (onEntry 𝓤 H A f.signature (κ, tt) (q, tt) (s, (most, (at, tt))) vs) ∷ []) ∵ enter ! C Λ code.function (v ∷ vint w64 most ∷ vint w64 at ∷ []) _ $
-        alloc1 ! (λ l₀. alloc1 ! (λ l₁. alloc1 ! (λ l₂. alloc1 ! (λ l₃. alloc1 ! (λ l₄. alloc0 ! $ params1 ! $
-        pass1 ! (init ! 6 refl (shr-slice-lawful 𝓤 H A W (named 0) κ u8 .typed s (v ∷ []) p .0)) $ pass1 ! (init ! 4 refl (tt, record { fits = most-fits })) $ pass1 ! (init ! 2 refl (tt, record { fits = at-fits })) $ pass0 ! $
-        move ! (10 ∷ []) $ use1 W (raw (New 𝓤 H A mem run .pre to-new) ⊛ ‵ Own) goes-new $ split ! $
-        calls-at ! fm (New 𝓤 H A mem run) known-new to-new (and-then ! (load ! (from ! (stop !)) (look ! 8 refl)) (and-then ! (load ! (from ! (stop !)) (look ! 4 refl)) (no-more !))) (λ u.
+        qed W (raw (onEntry 𝓤 H A f.signature (κ, tt) (q, tt) (s, (top, (most, (at, tt)))) vs) ∷ []) ∵ enter ! C Λ code.function (v ∷ vint w64 top ∷ vint w64 most ∷ vint w64 at ∷ []) _ $
+        alloc1 ! (λ l₀. alloc1 ! (λ l₁. alloc1 ! (λ l₂. alloc1 ! (λ l₃. alloc1 ! (λ l₄. alloc1 ! (λ l₅. alloc0 ! $ params1 ! $
+        pass1 ! (init ! 8 refl (shr-slice-lawful 𝓤 H A W (named 0) κ u8 .typed s (v ∷ []) p .0)) $ pass1 ! (init ! 6 refl (tt, record { fits = top-fits })) $ pass1 ! (init ! 4 refl (tt, record { fits = most-fits })) $ pass1 ! (init ! 2 refl (tt, record { fits = at-fits })) $ pass0 ! $
+        move ! (12 ∷ []) $ use1 W (raw (New 𝓤 H A mem run .pre to-new) ⊛ ‵ Own) goes-new $ split ! $
+        calls-at ! fm (New 𝓤 H A mem run) known-new to-new (and-then ! (load ! (from ! (stop !)) (look ! 10 refl)) (and-then ! (load ! (from ! (stop !)) (look ! 4 refl)) (no-more !))) (λ u.
         use1 W (later (some (λ (r : Reader). ((‵ (flft κ q) ⊛ ‵ ftrue) ⊛ ‵ (B (κ, tt) .own r (u ∷ []))) ⊛ raw (ensured 𝓤 H A new.ended (new.clauses 𝓤 H A mem run) (κ, tt) (s, (at, tt)) tt r)))) (id⊢ 𝓤 _) $ await ! tt $ pick ! (λ r.
         split ! $ move ! (1 ∷ []) $ use1 W (raw (fact 𝓤 ((r .sheet ≡ s) × (r .at ≡ at)))) (new-said r) $ heard ! ((r .sheet ≡ s) × (r .at ≡ at)) (λ e. split ! $ move ! (1 ∷ []) $
-        -- [what the struct owns; the token; what s owns; room for _4; …; room for _0; …]
+        -- [what the struct owns; the token; what s owns; room for _5; …; room for _0; …]
         peeks ! (B (κ, tt)) (Is (B (κ, tt))) (shows 𝓤 H A (B (κ, tt))) r (u ∷ []) (λ is.
         land ! (from ! (stop !)) (init ! 3 refl (LL.lawful (T.the-type αᵉ) (T′.the-laws αᵉ) 𝓤 H A W .typed r _ is .0)) $
         use2 W (raw (PlainSlots 𝓤 H A mem run .pre (to-plain-slots r u))) (goes-plain-slots r u) $
-        calls-at ! fm (PlainSlots 𝓤 H A mem run) known-plain-slots (to-plain-slots r u) (and-then ! (load ! (from ! (stop !)) (look ! 2 refl)) (and-then ! (load ! (from ! (stop !)) (look ! 6 refl)) (no-more !))) (λ u′.
-        use1 W (later (some (λ (t : ℕ). ((‵ (flft κ q) ⊛ ‵ ftrue) ⊛ ‵ (usize .own t (u′ ∷ []))) ⊛ raw (ensured 𝓤 H A plain-slots.ended (plain-slots.clauses 𝓤 H A mem run) (κ, tt) (r, (most, tt)) tt t)))) (id⊢ 𝓤 _) $ await ! tt $ pick ! (λ t.
-        split ! $ move ! (1 ∷ []) $ use1 W (raw (fact 𝓤 (t ≡ plainRun (now (r .sheet)) (r .at) most))) (plain-slots-said r t) $ heard ! (t ≡ plainRun (now (r .sheet)) (r .at) most) (λ e′. split ! $ move ! (1 ∷ []) $
-        -- [the result; the token; what s owns; _4; …; _1; …; room for _0; …]
+        calls-at ! fm (PlainSlots 𝓤 H A mem run) known-plain-slots (to-plain-slots r u) (and-then ! (load ! (from ! (stop !)) (look ! 2 refl)) (and-then ! (load ! (from ! (stop !)) (look ! 8 refl)) (and-then ! (load ! (from ! (stop !)) (look ! 6 refl)) (no-more !)))) (λ u′.
+        use1 W (later (some (λ (t : ℕ). ((‵ (flft κ q) ⊛ ‵ ftrue) ⊛ ‵ (usize .own t (u′ ∷ []))) ⊛ raw (ensured 𝓤 H A plain-slots.ended (plain-slots.clauses 𝓤 H A mem run) (κ, tt) (r, (top, (most, tt))) tt t)))) (id⊢ 𝓤 _) $ await ! tt $ pick ! (λ t.
+        split ! $ move ! (1 ∷ []) $ use1 W (raw (fact 𝓤 (t ≡ plainRun (now (r .sheet)) top (r .at) most))) (plain-slots-said r t) $ heard ! (t ≡ plainRun (now (r .sheet)) top (r .at) most) (λ e′. split ! $ move ! (1 ∷ []) $
+        -- [the result; the token; what s owns; _5; …; _1; …; room for _0; …]
         peeks ! usize (Is usize) (shows 𝓤 H A usize) t (u′ ∷ []) (λ is′.
-        land ! (from ! (stop !)) (init ! 11 refl (uint-lawful 𝓤 H A W w64 .typed t _ is′ .0)) $
-        returns ! (look ! 11 refl) $ forget ! 3 refl $ forget ! 5 refl $ forget ! 7 refl $ forget ! 9 refl $ forget ! 11 refl $
-        move ! (11 ∷ 12 ∷ []) $ free1 ! $ move ! (9 ∷ 10 ∷ []) $ free1 ! $ move ! (7 ∷ 8 ∷ []) $ free1 ! $ move ! (5 ∷ 6 ∷ []) $ free1 ! $ move ! (3 ∷ 4 ∷ []) $ free1 ! $ free0 ! $
-        by ! (exits t u′ (e′ ∙ (ap (λ (x : RefT (List ℕ)). plainRun (now x) (r .at) most) (e .0) ∙ ap (λ (x : ℕ). plainRun (now s) x most) (e .1)))))))))))))))))
+        land ! (from ! (stop !)) (init ! 13 refl (uint-lawful 𝓤 H A W w64 .typed t _ is′ .0)) $
+        returns ! (look ! 13 refl) $ forget ! 3 refl $ forget ! 5 refl $ forget ! 7 refl $ forget ! 9 refl $ forget ! 11 refl $ forget ! 13 refl $
+        move ! (13 ∷ 14 ∷ []) $ free1 ! $ move ! (11 ∷ 12 ∷ []) $ free1 ! $ move ! (9 ∷ 10 ∷ []) $ free1 ! $ move ! (7 ∷ 8 ∷ []) $ free1 ! $ move ! (5 ∷ 6 ∷ []) $ free1 ! $ move ! (3 ∷ 4 ∷ []) $ free1 ! $ free0 ! $
+        by ! (exits t u′ (e′ ∙ (ap (λ (x : RefT (List ℕ)). plainRun (now x) top (r .at) most) (e .0) ∙ ap (λ (x : ℕ). plainRun (now s) top x most) (e .1))))))))))))))))))
 
 module _ {M : Type 1} (𝓤 : URA M) (H : Heap 𝓤) (A : Atoms 𝓤) (W : Given 𝓤 H A) (mem : Memory → SProp 𝓤) (run : Routine → Fun 𝓤) where
   f-walks : (C : Calls 𝓤 H) (Λ : Loops 𝓤 H) → FmC 𝓤 H (W .laws) C → Triple 𝓤 (C #reader·new) (New 𝓤 H A mem run) → Triple 𝓤 (C #reader·plain-slots) (PlainSlots 𝓤 H A mem run)
       → Walks 𝓤 H A f.ended stayed (WpFn 𝓤 H C Λ code.function) (f.clauses 𝓤 H A mem run)
-  f-walks C Λ fm known-new known-plain-slots = walked 𝓤 H A f.ended stayed (f.clauses 𝓤 H A mem run) (WpFn 𝓤 H C Λ code.function) (λ κs. (slice-vals, (uint-vals w64, (uint-vals w64, tt)))) (λ κs. (shr-slice-tells (named 0) (κs .0) u8, (uint-tells w64, (uint-tells w64, tt))))
-      (λ κs qs bounds a g are. via 𝓤 _ (fst∗ 𝓤 _ (emp 𝓤)) (walk 𝓤 H A W mem run (κs .0) (qs .0) (a .0) (a .1 .0) (a .1 .1 .0) (are .1 .0 .1) (are .1 .1 .0 .1) C Λ fm known-new known-plain-slots (are .0)))
+  f-walks C Λ fm known-new known-plain-slots = walked 𝓤 H A f.ended stayed (f.clauses 𝓤 H A mem run) (WpFn 𝓤 H C Λ code.function) (λ κs. (slice-vals, (uint-vals w64, (uint-vals w64, (uint-vals w64, tt))))) (λ κs. (shr-slice-tells (named 0) (κs .0) u8, (uint-tells w64, (uint-tells w64, (uint-tells w64, tt)))))
+      (λ κs qs bounds a g are. via 𝓤 _ (fst∗ 𝓤 _ (emp 𝓤)) (walk 𝓤 H A W mem run (κs .0) (qs .0) (a .0) (a .1 .0) (a .1 .1 .0) (a .1 .1 .1 .0) (are .1 .0 .1) (are .1 .1 .0 .1) (are .1 .1 .1 .0 .1) C Λ fm known-new known-plain-slots (are .0)))
 
 f-meets : {M : Type 1} (𝓤 : URA M) (H : Heap 𝓤) (A : Atoms 𝓤) (W : Given 𝓤 H A) (mem : Memory → SProp 𝓤) (run : Routine → Fun 𝓤) (𝓣 : Tables 𝓤 H)
     → Triple 𝓤 (𝓣 .C #reader·new) (New 𝓤 H A mem run) → Triple 𝓤 (𝓣 .C #reader·plain-slots) (PlainSlots 𝓤 H A mem run)
     → Meets 𝓤 H A f.signature (WpFn 𝓤 H (𝓣 .C) (𝓣 .Λ) code.function) (f.spec 𝓤 H A mem run)
-f-meets 𝓤 H A W mem run 𝓣 known-new known-plain-slots = walk-meets 𝓤 H A f.ended stayed W (goes-none-slice 𝓤 H A W 1 (0 ∷ []) tt (plain (λ _. u8)) yes, (goes-none 𝓤 H A W 1 (λ _. usize) yes (λ κs x f. refl), (goes-none 𝓤 H A W 1 (λ _. usize) yes (λ κs x f. refl), tt))) (f.clauses 𝓤 H A mem run) (WpFn 𝓤 H (𝓣 .C) (𝓣 .Λ) code.function) (WpFn-mono 𝓤 H (W .laws) 𝓣 code.function)
+f-meets 𝓤 H A W mem run 𝓣 known-new known-plain-slots = walk-meets 𝓤 H A f.ended stayed W (goes-none-slice 𝓤 H A W 1 (0 ∷ []) tt (plain (λ _. u8)) yes, (goes-none 𝓤 H A W 1 (λ _. usize) yes (λ κs x f. refl), (goes-none 𝓤 H A W 1 (λ _. usize) yes (λ κs x f. refl), (goes-none 𝓤 H A W 1 (λ _. usize) yes (λ κs x f. refl), tt)))) (f.clauses 𝓤 H A mem run) (WpFn 𝓤 H (𝓣 .C) (𝓣 .Λ) code.function) (WpFn-mono 𝓤 H (W .laws) 𝓣 code.function)
     (f-walks 𝓤 H A W mem run (𝓣 .C) (𝓣 .Λ) (fmOf 𝓤 H (W .laws) 𝓣) known-new known-plain-slots)
 
 pub plain-slots-at-spec : {M : Type 1} → stated.statement M

@@ -6,14 +6,12 @@ use borrow.Author.Needs.{needs}
 use Rattle.format.specs.Heads.{kindAt, endAt}
 use Rattle.records.specs.Records.{parametersFault}
 use Rattle.sheet.specs.Stages.{atParameters}
-use Rattle.format.proofs.HeadLaws.{lies}
-use Rattle.records.proofs.Passed.{parameters-passed}
-use Rattle.sheet.proofs.WalkLaws.{went, halted}
+use Rattle.sheet.proofs.WalkLaws.{went, halted, parameters-lie}
 use Rattle.sheet.proofs.check_parameters.Statement.{statement}
 use Rattle.sheet.proofs.check_parameters.Tie as tie
 
-parameters-at-requires : tie.Need-parameters-at-requires
-parameters-at-requires c κs = search needs
+due-at-requires : tie.Need-due-at-requires
+due-at-requires c κs = search needs
 
 enum-known-step : tie.Need-enum-known-step
 enum-known-step c = search needs
@@ -31,7 +29,7 @@ returns c =
     let s = now (a .s) in
     let t = c .before .enum-told .given in
     let h = halted (parametersFault s (a .slots) (a .at)) (endAt s (a .at)) (kindAt s (a .at)) (t .0 .0)
-    (sym (t .1) ∙ c .before .before .before .parameters-at .ensures) in
+    (sym (t .1) ∙ c .before .before .before .due-at .ensures) in
     rw (c .refusal .ensures, t .1, h)
 
 add-t9 : tie.Need-add-t9
@@ -39,30 +37,24 @@ add-t9 c =
     let a = c .before .before .before .before .before .args in
     let s = now (a .s) in
     let g = c .before .step .given in
-    let w = went (parametersFault s (a .slots) (a .at)) (endAt s (a .at)) (kindAt s (a .at)) (g .0 .0) (g .0 .1 .0)
-    (sym (g .1) ∙ c .before .before .before .parameters-at .ensures) in
-    let l = lies s (a .at) (parameters-passed s (a .slots) (a .at) (w .no-fault) .whole) in
-    omega (arith, l .ordered, l .within)
+    let l = parameters-lie s (a .slots) (a .at) (g .0 .0) (g .0 .1 .0) (sym (g .1) ∙ c .before .before .before .due-at .ensures) in
+    omega (arith, l .0, l .1)
 
 add-t10 : tie.Need-add-t10
 add-t10 c =
     let a = c .before .before .before .before .before .args in
     let s = now (a .s) in
     let g = c .before .step .given in
-    let w = went (parametersFault s (a .slots) (a .at)) (endAt s (a .at)) (kindAt s (a .at)) (g .0 .0) (g .0 .1 .0)
-    (sym (g .1) ∙ c .before .before .before .parameters-at .ensures) in
-    let l = lies s (a .at) (parameters-passed s (a .slots) (a .at) (w .no-fault) .whole) in
-    omega (arith, l .ordered, l .within)
+    let l = parameters-lie s (a .slots) (a .at) (g .0 .0) (g .0 .1 .0) (sym (g .1) ∙ c .before .before .before .due-at .ensures) in
+    omega (arith, l .0, l .1)
 
 sub-t11 : tie.Need-sub-t11
 sub-t11 c =
     let a = c .before .before .before .before .before .args in
     let s = now (a .s) in
     let g = c .before .step .given in
-    let w = went (parametersFault s (a .slots) (a .at)) (endAt s (a .at)) (kindAt s (a .at)) (g .0 .0) (g .0 .1 .0)
-    (sym (g .1) ∙ c .before .before .before .parameters-at .ensures) in
-    let l = lies s (a .at) (parameters-passed s (a .slots) (a .at) (w .no-fault) .whole) in
-    omega (arith, l .ordered, w .is-end)
+    let l = parameters-lie s (a .slots) (a .at) (g .0 .0) (g .0 .1 .0) (sym (g .1) ∙ c .before .before .before .due-at .ensures) in
+    omega (arith, l .0, l .1)
 
 check-slots-requires : tie.Need-check-slots-requires
 check-slots-requires c κs = search needs
@@ -74,14 +66,14 @@ returns-2 c =
     let s = now (a .s) in
     let g = c .before .before .step .given in
     let w = went (parametersFault s (a .slots) (a .at)) (endAt s (a .at)) (kindAt s (a .at)) (g .0 .0) (g .0 .1 .0)
-    (sym (g .1) ∙ c .before .before .before .before .parameters-at .ensures) in
+    (sym (g .1) ∙ c .before .before .before .before .due-at .ensures) in
     rw (w .no-fault, ← w .is-end) (c .check-slots .ensures)
 
 pub check-parameters-spec : {M : Type 1} → statement M
 check-parameters-spec =
     tie.close
     (tie.spec
-    parameters-at-requires
+    due-at-requires
     enum-known-step
     enum-told
     refusal-requires

@@ -25,11 +25,11 @@ loop-holds c =
     let a = c .before .before .args in
     (p .2, omega arith, λ h. omega arith, hosted-start (now (a .s)) (a .first) (a .count) (now (a .words)) (a .base) (a .w) (p .2))
 
-sub-in-word : tie.Need-sub-in-word Inv-loop μ-loop
-sub-in-word c = search needs
+sub-smaller : tie.Need-sub-smaller Inv-loop μ-loop
+sub-smaller c = search needs
 
-in-word-requires : tie.Need-in-word-requires Inv-loop μ-loop
-in-word-requires c κs = search needs
+smaller-requires : tie.Need-smaller-requires Inv-loop μ-loop
+smaller-requires c κs = search needs
 
 add-host-word : tie.Need-add-host-word Inv-loop μ-loop
 add-host-word c =
@@ -55,10 +55,10 @@ slice-read-host-word c =
 host-word-requires : tie.Need-host-word-requires Inv-loop μ-loop
 host-word-requires c κs =
     let p = c .before .before .before .before .before .before .pre in
-    let in-word = c .before .in-word in
+    let smaller = c .before .smaller in
     let loop-test = c .before .before .loop-test in
     let l = c .before .before .before .loop in
-    stand-from (p .0) (l .k) (in-word .result) (l .inv .3 .place) (omega (arith, in-word .ensures, loop-test .taken))
+    stand-from (p .0) (l .k) (smaller .result) (l .inv .3 .place) (omega (arith, smaller .ensures, loop-test .taken))
 
 add-words : tie.Need-add-words Inv-loop μ-loop
 add-words c =
@@ -83,9 +83,9 @@ slice-write-words c =
 
 add-k : tie.Need-add-k Inv-loop μ-loop
 add-k c =
-    let in-word = c .before .before .in-word in
+    let smaller = c .before .before .smaller in
     let loop-test = c .before .before .before .loop-test in
-    omega (arith, in-word .ensures, loop-test .taken)
+    omega (arith, smaller .ensures, loop-test .taken)
 
 add-j : tie.Need-add-j Inv-loop μ-loop
 add-j c =
@@ -96,19 +96,19 @@ add-j c =
 
 loop-less : tie.Need-loop-less Inv-loop μ-loop
 loop-less c =
-    let in-word = c .before .before .in-word in
+    let smaller = c .before .before .smaller in
     let loop-test = c .before .before .before .loop-test in
-    omega (arith, in-word .ensures, loop-test .taken)
+    omega (arith, smaller .ensures, loop-test .taken)
 
 loop-again : tie.Need-loop-again Inv-loop μ-loop
 unfolding hostWordAt
 loop-again c =
     let loop-test = c .before .before .before .loop-test in
-    let in-word = c .before .before .in-word in
+    let smaller = c .before .before .smaller in
     let p = c .before .before .before .before .before .before .before .pre in
     let l = c .before .before .before .before .loop in
     let taken = loop-test .taken in
-    let n = in-word .ensures in
+    let n = smaller .ensures in
     let e = c .host-word .ensures in
     let here = l .inv .2 taken in (
       l .inv .0,
@@ -135,8 +135,8 @@ insert-host-slots-spec =
     Inv-loop
     μ-loop
     loop-holds
-    sub-in-word
-    in-word-requires
+    sub-smaller
+    smaller-requires
     add-host-word
     mul-host-word
     slice-read-host-word

@@ -4,7 +4,7 @@ use native.Mathlib.Omega.{arith}
 use denote.Ref.{now}
 use borrow.Author.Needs.{needs}
 use Rattle.format.proofs.HeadLaws.{lies}
-use Rattle.instructions.proofs.PlacedLaws.{plain-made}
+use Rattle.instructions.proofs.PlacedLaws.{two-bytes, plain-made}
 use Rattle.instructions.proofs.slot.slot_at.Statement.{statement}
 use Rattle.instructions.proofs.slot.slot_at.Tie as tie
 
@@ -15,37 +15,27 @@ u16-at-requires c κs =
 add-b : tie.Need-add-b
 add-b c =
     let a = c .before .before .before .args in
-    let w = lies (now (a .s)) (a .at) (c .before .before .before .pre .whole) in
-    let e = sym (c .before .u16-at .ensures .0) ∙ c .if1 .taken in
-    omega (arith, w .within, e)
+    omega (arith, two-bytes (now (a .s)) (a .at) (c .before .before .before .pre) (sym (c .before .u16-at .ensures .0) ∙ c .if1 .taken))
 
 shared-slice-read-b : tie.Need-shared-slice-read-b
 shared-slice-read-b c =
     let a = c .before .before .before .before .args in
-    let w = lies (now (a .s)) (a .at) (c .before .before .before .before .pre .whole) in
-    let e = sym (c .before .before .u16-at .ensures .0) ∙ c .before .if1 .taken in
-    omega (arith, w .within, e)
+    omega (arith, two-bytes (now (a .s)) (a .at) (c .before .before .before .before .pre) (sym (c .before .before .u16-at .ensures .0) ∙ c .before .if1 .taken))
 
 add-t6 : tie.Need-add-t6
 add-t6 c =
     let a = c .before .before .before .before .args in
-    let w = lies (now (a .s)) (a .at) (c .before .before .before .before .pre .whole) in
-    let e = sym (c .before .before .u16-at .ensures .0) ∙ c .before .if1 .taken in
-    omega (arith, w .within, e)
+    omega (arith, two-bytes (now (a .s)) (a .at) (c .before .before .before .before .pre) (sym (c .before .before .u16-at .ensures .0) ∙ c .before .if1 .taken))
 
 shared-slice-read-t8 : tie.Need-shared-slice-read-t8
 shared-slice-read-t8 c =
     let a = c .before .before .before .before .before .args in
-    let w = lies (now (a .s)) (a .at) (c .before .before .before .before .before .pre .whole) in
-    let e = sym (c .before .before .before .u16-at .ensures .0) ∙ c .before .before .if1 .taken in
-    omega (arith, w .within, e)
+    omega (arith, two-bytes (now (a .s)) (a .at) (c .before .before .before .before .before .pre) (sym (c .before .before .before .u16-at .ensures .0) ∙ c .before .before .if1 .taken))
 
 add-t13 : tie.Need-add-t13
 add-t13 c =
     let a = c .before .before .before .before .before .args in
-    let w = lies (now (a .s)) (a .at) (c .before .before .before .before .before .pre .whole) in
-    let e = sym (c .before .before .before .u16-at .ensures .0) ∙ c .before .before .if1 .taken in
-    omega (arith, w .within, e)
+    omega (arith, two-bytes (now (a .s)) (a .at) (c .before .before .before .before .before .pre) (sym (c .before .before .before .u16-at .ensures .0) ∙ c .before .before .if1 .taken))
 
 returns : tie.Need-returns
 returns c =

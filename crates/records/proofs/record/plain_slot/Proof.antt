@@ -24,41 +24,48 @@ add-if1 c = search needs
 returns : tie.Need-returns
 returns c =
     let a = c .before .before .before .before .args in
-    let h = c .before .before .before .before .pre in
+    let h = c .before .before .before .before .pre .0 in
     let n = c .before .before .u16-at in
     let k = c .before .u16-at2 in
-    plain-not-head (now (a .s)) (a .at) (n .result) (k .result) h (n .ensures .0) (n .ensures .1) (k .ensures .0)
+    plain-not-head (now (a .s)) (a .top) (a .at) (n .result) (k .result) h (n .ensures .0) (n .ensures .1) (k .ensures .0)
     (c .if1 .taken)
 
-add-if2 : tie.Need-add-if2
-add-if2 c = search needs
+add-number : tie.Need-add-number
+add-number c = search needs
 
-shared-slice-read-if2 : tie.Need-shared-slice-read-if2
-shared-slice-read-if2 c = search needs
+shared-slice-read-number : tie.Need-shared-slice-read-number
+shared-slice-read-number c = search needs
+
+number-requires : tie.Need-number-requires
+number-requires c κs = search needs
 
 returns-2 : tie.Need-returns-2
 returns-2 c =
-    let a = c .before .before .before .before .before .before .args in
-    let h = c .before .before .before .before .before .before .pre in
-    let n = c .before .before .before .before .u16-at in
-    let k = c .before .before .before .u16-at2 in
-    plain-not-physical (now (a .s)) (a .at) (n .result) (k .result) h (n .ensures .0) (n .ensures .1) (k .ensures .0)
-    (c .before .before .if1 .left) (omega arith)
+    let a = c .before .before .before .before .before .before .before .args in
+    let h = c .before .before .before .before .before .before .before .pre .0 in
+    let n = c .before .before .before .before .before .u16-at in
+    let k = c .before .before .before .before .u16-at2 in
+    plain-not-physical (now (a .s)) (a .top) (a .at) (n .result) (k .result) h (n .ensures .0) (n .ensures .1) (k .ensures .0)
+    (c .before .before .before .if1 .left) (omega (arith, c .before .number .ensures))
 
-add-result : tie.Need-add-result
-add-result c = search needs
+add-number-2 : tie.Need-add-number-2
+add-number-2 c = search needs
 
-shared-slice-read-result : tie.Need-shared-slice-read-result
-shared-slice-read-result c = search needs
+shared-slice-read-number-2 : tie.Need-shared-slice-read-number-2
+shared-slice-read-number-2 c = search needs
+
+number-requires-2 : tie.Need-number-requires-2
+number-requires-2 c κs = search needs
 
 returns-3 : tie.Need-returns-3
 returns-3 c =
-    let a = c .before .before .before .before .before .before .before .args in
-    let h = c .before .before .before .before .before .before .before .pre in
-    let n = c .before .before .before .before .before .u16-at in
-    let k = c .before .before .before .before .u16-at2 in
-    plain-told (now (a .s)) (a .at) (n .result) (k .result) h (n .ensures .0) (n .ensures .1) (k .ensures .0)
-    (c .before .before .before .if1 .left) (omega arith)
+    let a = c .before .before .before .before .before .before .before .before .before .args in
+    let h = c .before .before .before .before .before .before .before .before .before .pre .0 in
+    let n = c .before .before .before .before .before .before .before .u16-at in
+    let k = c .before .before .before .before .before .before .u16-at2 in
+    rw (c .number2 .ensures)
+    (plain-told (now (a .s)) (a .top) (a .at) (n .result) (k .result) h (n .ensures .0) (n .ensures .1) (k .ensures .0)
+    (c .before .before .before .before .before .if1 .left) (omega arith))
 
 pub plain-slot-spec : {M : Type 1} → statement M
 plain-slot-spec =
@@ -70,9 +77,11 @@ plain-slot-spec =
     mul-if1
     add-if1
     returns
-    add-if2
-    shared-slice-read-if2
+    add-number
+    shared-slice-read-number
+    number-requires
     returns-2
-    add-result
-    shared-slice-read-result
+    add-number-2
+    shared-slice-read-number-2
+    number-requires-2
     returns-3)

@@ -40,8 +40,8 @@ loop-holds c =
       counted-start (now (a .s)) (a .count) (a .first),
     )
 
-instruction-at-requires : tie.Need-instruction-at-requires Inv-loop μ-loop
-instruction-at-requires c κs = search needs
+due-at-requires : tie.Need-due-at-requires Inv-loop μ-loop
+due-at-requires c κs = search needs
 
 enum-known-step : tie.Need-enum-known-step Inv-loop μ-loop
 enum-known-step c = search needs
@@ -59,7 +59,7 @@ returns c =
     let t = c .before .enum-told .given in
     let s = now (a .s) in
     let h = halted (instructionFault s (a .slots) (a .count) (l .at)) (endAt s (l .at)) (kindAt s (l .at)) (t .0 .0)
-    (sym (t .1) ∙ c .before .before .before .instruction-at .ensures) in
+    (sym (t .1) ∙ c .before .before .before .due-at .ensures) in
     rw (
       c .refusal .ensures,
       t .1,
@@ -88,7 +88,7 @@ loop-again c =
     let g = c .before .before .before .step .given in
     let s = now (a .s) in
     let w = went (instructionFault s (a .slots) (a .count) (l .at)) (endAt s (l .at)) (kindAt s (l .at)) (g .0 .0) (g .0 .1 .0)
-    (sym (g .1) ∙ c .before .before .before .before .before .instruction-at .ensures) in (
+    (sym (g .1) ∙ c .before .before .before .before .before .due-at .ensures) in (
       run-more (λ x. instructionFault s (a .slots) (a .count) x) s (a .count) (a .first) (l .at) (l .i) (l .inv .0) (g .0 .0) (omega arith)
           (w .no-fault) (w .is-end),
       counted-more s (a .count) (a .first) (l .at) (l .i) (l .last) (l .awaits) (l .inv .1) (g .0 .0) (g .0 .1 .0) (c .one-if .result) (omega arith)
@@ -114,7 +114,7 @@ walk-code-spec =
     Inv-loop
     μ-loop
     loop-holds
-    instruction-at-requires
+    due-at-requires
     enum-known-step
     enum-told
     refusal-requires
