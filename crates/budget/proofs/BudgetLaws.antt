@@ -7,14 +7,14 @@ use native.Mathlib.Omega.{arith}
 use native.Mathlib.Nat.{mul-le-mul}
 use lib.Dec.{leb}
 use lib.ListN.{replicate, replicate-append-replicate}
-use borrow.Author.Tests.{le-leb, lt-leb}
+use borrow.Author.Tests.{le-leb, lt-leb, leb-true}
 use Rattle.dataflow.specs.Lists.{pick}
 use Rattle.dataflow.specs.Charges.{Spent, within, crossed, saturatingSum, spend}
 use Rattle.budget.specs.declared.FlowBudget.{FlowBudget}
 use Rattle.budget.specs.declared.Limits.{Limits}
 use Rattle.budget.specs.declared.Charged.{Charged}
 use Rattle.budget.specs.declared.Charged.the-variants.{Ok, Over}
-use Rattle.budget.specs.Budget.{withWork, afterSpent, charged, andCharged}
+use Rattle.budget.specs.Budget.{withWork, afterSpent, charged, budgetOf, andCharged}
 
 -- no charge changes nothing
 pub charged-none : (l : Limits) (b : FlowBudget) → charged l b [] ≡ Ok b
@@ -78,6 +78,21 @@ module _ (l : Limits) (b : FlowBudget) (c w : ℕ) (e : w ≡ saturatingSum (b .
   pub charged-over : l .work < w → Over (withWork b w) ≡ charged l b (c ∷ [])
   unfolding charged
   charged-over h = rw (← e, lt-leb w (l .work) h) refl
+
+-- a charge that was met: the work is the sum, and within the limit
+pub met-one : (l : Limits) (b : FlowBudget) (c : ℕ) {left : FlowBudget} → charged l b (c ∷ []) ≡ Ok left
+    → (left .work ≡ saturatingSum (b .work) c) × (left .work ≤ l .work)
+unfolding charged
+met-one l b c {left} e = go (leb w (l .work)) refl e
+  where
+    w : ℕ
+    w = saturatingSum (b .work) c
+
+    go : (t : Bool) → leb w (l .work) ≡ t → afterSpent b (pick t (within w) (crossed w)) ≡ Ok left → (left .work ≡ w) × (left .work ≤ l .work)
+    go true q r =
+        let p : w ≡ left .work = ap (λ (x : Charged). budgetOf x .work) r in
+        (sym p, omega (arith, leb-true w (l .work) q))
+    go false q r = absurd (over-not-ok r)
 
 -- the products of `state_bytes` fit
 pub state-small : (blocks words : ℕ) → blocks ≤ 65536 → words ≤ 1024 → blocks * (32 * words + 264) ≤ 65536 * 33032

@@ -4,20 +4,17 @@ use mathlib.Core.Bool.{Bool, true, false, true≢false, false≢true}
 use mathlib.Core.List.{List, [], _∷_, _++_, map}
 use Prim.Native.Nat.{ℕ, suc, _+_, _*_, _-_, _≤_}
 use native.Mathlib.Omega.{arith}
-use lib.Dec.{leb, leb→le}
 use lib.ListN.{length, take, drop, replicate, length-set, length-map, length-append, length-drop, length-replicate, length-reverse}
 use lib.Seq.{length-take-le}
-use Rattle.dataflow.specs.Lists.{pick}
 use Rattle.dataflow.specs.Worklist as worklist
-use Rattle.dataflow.specs.Charges.{within, crossed, saturatingSum, traceCharges}
-use Rattle.dataflow.proofs.Bools.{true-test}
+use Rattle.dataflow.specs.Charges.{traceCharges}
 use Rattle.dataflow.proofs.Worklist.{run-more}
 use Rattle.budget.specs.declared.FlowBudget.{FlowBudget}
 use Rattle.budget.specs.declared.Limits.{Limits}
 use Rattle.budget.specs.declared.Charged.{Charged}
 use Rattle.budget.specs.declared.Charged.the-variants.{Ok, Over}
-use Rattle.budget.specs.Budget.{afterSpent, charged, andCharged, budgetOf}
-use Rattle.budget.proofs.BudgetLaws.{charged-cons, charged-append, over-not-ok}
+use Rattle.budget.specs.Budget.{charged, andCharged}
+use Rattle.budget.proofs.BudgetLaws.{charged-cons, charged-append, over-not-ok, met-one}
 use Rattle.memory.specs.Cells.{Mem, cell, storeCell}
 use Rattle.memory.specs.Names.{orderCell, queuedCell, reachableCell, ringCell}
 use Rattle.memory.specs.Scratch.{scratchWidths}
@@ -41,24 +38,6 @@ use Rattle.propagate.proofs.RingWords.{below-zeros, below-take}
 use Rattle.propagate.proofs.Fixed.{Fixed, fixed-none, fixed-ring, fixed-queued, fixed-connected}
 use Rattle.propagate.proofs.Simulation.{Simulates}
 use Rattle.propagate.proofs.Visits.{chargesOf, Follows, follows-run, run-charges, run-parts}
-
--- ---- charges
-
--- charges that were met are within the limit
-pub met-within : (l : Limits) (b : FlowBudget) (c : ℕ) (cs : List ℕ) {left : FlowBudget} → charged l b (c ∷ cs) ≡ Ok left → left .work ≤ l .work
-unfolding charged
-met-within l b c [] {left} e = go (leb (saturatingSum (b .work) c) (l .work)) refl e
-  where
-    go : (t : Bool) → leb (saturatingSum (b .work) c) (l .work) ≡ t
-        → afterSpent b (pick t (within (saturatingSum (b .work) c)) (crossed (saturatingSum (b .work) c))) ≡ Ok left → left .work ≤ l .work
-    go true q e = subst (λ (x : FlowBudget). x .work ≤ l .work) (ap budgetOf e) (leb→le (saturatingSum (b .work) c) (l .work) (true-test _ q))
-    go false q e = absurd (over-not-ok e)
-met-within l b c (c′ ∷ cs) {left} e = go (charged l b (c ∷ [])) (sym (charged-cons l b c (c′ ∷ cs)) ∙ e) (λ b′ q. met-within l b′ c′ cs q)
-  where
-    go : (k : Charged) → andCharged k (λ b′. charged l b′ (c′ ∷ cs)) ≡ Ok left
-        → ((b′ : FlowBudget) → charged l b′ (c′ ∷ cs) ≡ Ok left → left .work ≤ l .work) → left .work ≤ l .work
-    go (Ok b′) q below = below b′ q
-    go (Over b′) q below = absurd (over-not-ok q)
 
 -- ---- the seeding
 
@@ -318,5 +297,5 @@ pub propagated-as : {d : Direction} {y : Layout} {l : Limits} {b left : FlowBudg
     → Propagated d y l b n m m′ t t′ c
 propagated-as {d} {y} {l} {b} {left} {n} {m} {m₁} {m′} {t} {t′} r z zt h met em er i ec =
     subst (λ (x : Charged). Propagated d y l b n m m′ t t′ x) (sym ec)
-    (propagated-on z zt h met (met-within l b (y .blocks + n) [] met) m′ t′ r
+    (propagated-on z zt h met (met-one l b (y .blocks + n) met .1) m′ t′ r
     (er ∙ ap (λ (x : Mem). run d y l (l .work + 1 - left .work) (atOf x t (full n)) left) em) i)

@@ -1,20 +1,18 @@
 -- The run in steps: those who are told, a visit, and the visits until no block waits. Assumes nothing.
 use mathlib.Core.Path.{_≡_, refl, sym, ap, ap₂, _∙_, subst}
-use mathlib.Core.Bool.{Bool, true, false}
+use mathlib.Core.Bool.{true, false}
 use mathlib.Core.List.{List, [], _∷_}
 use Prim.Native.Nat.{ℕ, zero, suc, _+_, _*_, _-_, _^_, _≤_, _<_}
 use native.Mathlib.Omega.{arith}
 use native.Mathlib.Nat.{mul-le-mul}
-use borrow.Author.Tests.{eq-eqb, ne-eqb, leb-true}
-use lib.Dec.{leb}
+use borrow.Author.Tests.{eq-eqb, ne-eqb}
 use Rattle.bitset.specs.Sets.{same}
-use Rattle.dataflow.specs.Lists.{pick}
-use Rattle.dataflow.specs.Charges.{within, crossed, saturatingSum}
 use Rattle.budget.specs.declared.FlowBudget.{FlowBudget}
 use Rattle.budget.specs.declared.Limits.{Limits}
 use Rattle.budget.specs.declared.Charged.{Charged}
 use Rattle.budget.specs.declared.Charged.the-variants.{Ok, Over}
-use Rattle.budget.specs.Budget.{afterSpent, budgetOf, charged}
+use Rattle.budget.specs.Budget.{charged}
+use Rattle.budget.proofs.BudgetLaws.{met-one}
 use Rattle.memory.specs.Cells.{Mem, cell, word, store, storeCell}
 use Rattle.memory.specs.Names.{queuedCell, ringCell}
 use Rattle.memory.specs.Scratch.{scratchWidths}
@@ -33,27 +31,10 @@ use Rattle.solver.proofs.NeighborLaws.{SameEdges, same-none, same-then,
 use Rattle.solver.proofs.TransferLaws.{running-at}
 use Rattle.solver.proofs.RingLaws.{Kept, good-row, popped-good, offers-kept}
 
--- ---- a charge that was met: the sum did not saturate, since the limit is below the largest number
-abbrev metOf : Charged → ℕ
-metOf (Ok b) = 1
-metOf (Over b) = 0
-
--- the work is the sum, and within the limit
+-- a charge that was met: the sum did not saturate, since the limit is below the largest number
 pub charge-met : (l : Limits) (b : FlowBudget) (n : ℕ) {b′ : FlowBudget} → l .work < 2 ^ 64 - 1 → charged l b (n ∷ []) ≡ Ok b′
     → (b′ .work ≡ b .work + n) × (b′ .work ≤ l .work)
-unfolding charged
-charge-met l b n {b′} lim e = go (leb w (l .work)) refl e
-  where
-    w : ℕ
-    w = saturatingSum (b .work) n
-
-    go : (t : Bool) → leb w (l .work) ≡ t → afterSpent b (pick t (within w) (crossed w)) ≡ Ok b′
-        → (b′ .work ≡ b .work + n) × (b′ .work ≤ l .work)
-    go true q r =
-        let h : w ≤ l .work = leb-true _ _ q in
-        let p : w ≡ b′ .work = ap (λ (c : Charged). budgetOf c .work) r in
-        omega arith
-    go false q r = absurd (omega (arith, ap metOf r))
+charge-met l b n lim e = omega (arith, met-one l b n e)
 
 -- ---- those who are told: k of n are, e is the next edge; the words are m, the ring is g and b is left
 module _ (y : Layout) (l : Limits) (m₀ : Mem) (g₀ : Ring) (b₀ : FlowBudget) (side : Side) (n e₀ : ℕ) where

@@ -1,12 +1,12 @@
 -- `propagate::propagate` meets its contract. Assumes nothing.
 use mathlib.Core.Path.{sym, _∙_}
-use mathlib.Core.List.{[]}
 use Prim.Native.Nat.{_+_}
 use denote.Ref.{now}
 use borrow.Author.Needs.{needs}
 use Rattle.memory.proofs.ScratchLaws.{scratch-sized}
 use Rattle.memory.proofs.SetsLaws.{sets-sized}
-use Rattle.propagate.proofs.RoundLaws.{met-within, seeded-good-as, propagated-over-as, propagated-as}
+use Rattle.budget.proofs.BudgetLaws.{met-one}
+use Rattle.propagate.proofs.RoundLaws.{seeded-good-as, propagated-over-as, propagated-as}
 use Rattle.propagate.proofs.propagate.Statement.{statement}
 use Rattle.propagate.proofs.propagate.Tie as tie
 
@@ -39,7 +39,7 @@ drain-requires c κs =
       search needs,
       search needs,
       seeded-good-as (a .d) (scratch-sized (now (a .s)) (pre .0)) (pre .2) (seed .ensures),
-      met-within (a .limits) (a .budget) (a .y .blocks + a .n) [] (sym (charge .ensures) ∙ met .given .1),
+      met-one (a .limits) (a .budget) (a .y .blocks + a .n) (sym (charge .ensures) ∙ met .given .1) .1,
       pre .3,
     )
 
