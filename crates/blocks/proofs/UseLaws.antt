@@ -1,17 +1,17 @@
 -- The inputs of an instruction put into the row of uses, one by one. Assumes nothing.
-use mathlib.Core.Path.{_≡_, refl, sym, ap, ap₂, _∙_}
+use mathlib.Core.Path.{_≡_, refl, sym, ap, _∙_}
 use mathlib.Core.Bool.{Bool, true, false, not, true≢false, false≢true}
 use mathlib.Core.List.{List, [], _∷_}
 use Prim.Native.Nat.{ℕ, _+_, _≤_, _<_}
 use native.Mathlib.Numerals.{add-one}
 use native.Mathlib.Omega.{arith}
 use lib.ListN.{length, getD, drop, drop-of-length-le}
-use lib.Seq.{drop-cons, set-getD, set-set}
+use lib.Seq.{drop-cons, set-getD}
 use Rattle.bitset.specs.Sets.{member, inserted}
 use Rattle.dataflow.specs.Lists.{pick}
 use Rattle.memory.specs.Cells.{Mem, cell, storeCell}
 use Rattle.memory.specs.Names.{usesRow, definesRow}
-use Rattle.memory.proofs.CellLaws.{cell-store-same, cell-store-other}
+use Rattle.memory.proofs.CellLaws.{cell-store-other, store-then}
 use Rattle.instructions.specs.Sets.{insertedAll}
 use Rattle.blocks.specs.Rows.{usedIn}
 
@@ -31,10 +31,8 @@ pub used-more : (b : ℕ) (l : List ℕ) (m m₁ : Mem) (k : ℕ) → k < length
 unfolding usedIn
 used-more b l m m₁ k h a e =
     let u : List ℕ = pick (member (cell m (definesRow b)) (getD l k 0)) (cell m (usesRow b)) (inserted (cell m (usesRow b)) (getD l k 0)) in
-    ap (usedAt b (drop (k + 1) l)) e
-    ∙ ap₂ (λ (d w : List ℕ). storeCell (storeCell m (usesRow b) u) (usesRow b) (usedIn d (drop (k + 1) l) w))
-    (cell-store-other m (usesRow b) u (definesRow b) (λ q. omega arith)) (cell-store-same m (usesRow b) u a)
-    ∙ set-set m (usesRow b) u (usedIn (cell m (definesRow b)) (drop (k + 1) l) u)
+    store-then m (usesRow b) u (λ w. usedIn (cell w (definesRow b)) (drop (k + 1) l)) a
+    (ap (λ (d : List ℕ). usedIn d (drop (k + 1) l) u) (cell-store-other m (usesRow b) u (definesRow b) (λ q. omega arith))) e
     ∙ rw (add-one k, drop-cons l k 0 h) refl
 
 -- one input, as the code puts it

@@ -7,7 +7,7 @@ use native.Mathlib.Decide.{decLt, ℕ-discrete}
 use native.Mathlib.Nat.{suc-mul, zero-mul}
 use native.Mathlib.Omega.{arith}
 use lib.ListN.{length, getD, set, take, drop, replicate, length-set, length-replicate, getD-replicate, List·getD-append}
-use lib.Seq.{getD-set-same, getD-set-other, set-out, ext-getD, drop-drop, take-append-le, take-append-add, getD-append-add}
+use lib.Seq.{getD-set-same, getD-set-other, set-out, set-set, ext-getD, drop-drop, take-append-le, take-append-add, getD-append-add}
 use lib.Seq.{take-set-le, take-set-lt, drop-set-lt, drop-set-add}
 use Rattle.bitset.specs.Sets.{Words}
 use Rattle.bitset.specs.Rows.{row, patched}
@@ -129,6 +129,13 @@ word-store-other m k i v j h ne = go (ℕ-discrete j k) (decLt k (length m))
     go (yes q) (yes d) =
         ap (λ (a : ℕ). word (store m k i v) a h) q ∙ word-cell-same m k (set (cell m k) i v) h d
         ∙ getD-set-other (cell m k) i h v 0 (ne q) ∙ ap (λ (a : ℕ). word m a h) (sym q)
+
+-- a cell becomes x, and then what f makes of the cells and of x, where f reads the cells as they were
+pub store-then : (m : Mem) (k : ℕ) (x : List ℕ) (f : Mem → List ℕ → List ℕ) → k < length m → f (storeCell m k x) x ≡ f m x
+    → {m₁ : Mem} → m₁ ≡ storeCell m k x → storeCell m₁ k (f m₁ (cell m₁ k)) ≡ storeCell m k (f m x)
+store-then m k x f h same e =
+    ap (λ (w : Mem). storeCell w k (f w (cell w k))) e ∙ set-set m k x _
+    ∙ ap (storeCell m k) (ap (f (storeCell m k x)) (cell-store-same m k x h) ∙ same)
 
 -- ---- cells of these widths, however they came about: a store keeps them so
 pub record Sized (ns : List ℕ) (m : Mem) : Type 0 where

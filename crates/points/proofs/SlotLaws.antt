@@ -1,13 +1,13 @@
 -- The operands of an instruction put into a row and taken out of it, one by one. Assumes nothing.
-use mathlib.Core.Path.{_≡_, refl, sym, ap, _∙_}
+use mathlib.Core.Path.{_≡_, refl, sym, _∙_}
 use mathlib.Core.List.{List, [], _∷_}
 use Prim.Native.Nat.{ℕ, _+_, _≤_, _<_}
 use native.Mathlib.Numerals.{add-one}
 use lib.ListN.{length, getD, drop, drop-of-length-le}
-use lib.Seq.{drop-cons, set-set}
+use lib.Seq.{drop-cons}
 use Rattle.bitset.specs.Sets.{inserted, removed}
 use Rattle.memory.specs.Cells.{Mem, cell, storeCell}
-use Rattle.memory.proofs.CellLaws.{cell-store-same}
+use Rattle.memory.proofs.CellLaws.{store-then}
 use Rattle.instructions.specs.Sets.{insertedAll}
 use Rattle.blocks.proofs.UseLaws.{stored-self}
 use Rattle.points.specs.Slots.{removedAll}
@@ -32,9 +32,7 @@ pub put-more : (r : ℕ) (l : List ℕ) (m m₁ : Mem) (k : ℕ) → k < length 
 unfolding insertedAll
 put-more r l m m₁ k h a e =
     let u : List ℕ = inserted (cell m r) (getD l k 0) in
-    ap (putAll r (drop (k + 1) l)) e
-    ∙ ap (λ (w : List ℕ). storeCell (storeCell m r u) r (insertedAll (drop (k + 1) l) w)) (cell-store-same m r u a)
-    ∙ set-set m r u (insertedAll (drop (k + 1) l) u)
+    store-then m r u (λ w. insertedAll (drop (k + 1) l)) a refl e
     ∙ rw (add-one k, drop-cons l k 0 h) refl
 
 -- all of them

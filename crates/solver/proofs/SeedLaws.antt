@@ -1,15 +1,16 @@
 -- The ring is filled from the order, word by word. Assumes nothing.
 use mathlib.Core.Path.{_≡_, refl, sym, ap, ap₂, _∙_}
 use mathlib.Core.List.{List, [], _∷_, _++_, reverseAux}
-use Prim.Native.Nat.{ℕ, zero, suc, _+_, _-_, _≤_, _<_}
+use Prim.Native.Nat.{ℕ, suc, _+_, _-_, _≤_, _<_}
 use native.Mathlib.Omega.{arith}
 use native.Mathlib.Decide.{decLt}
+use native.Mathlib.Nat.{zero-add}
 use native.Mathlib.Numerals.{add-one}
 use lib.ListN.{length, getD, set, take, drop, length-append, length-drop, length-reverse, List·getD-append}
-use lib.Seq.{getD-take, length-take-le, take-at, set-set, set-getD}
+use lib.Seq.{getD-take, length-take-le, take-at, set-getD, paste, paste-suc}
 use Rattle.memory.specs.Cells.{Mem, cell, word, store, storeCell}
 use Rattle.memory.specs.Names.{orderCell, ringCell}
-use Rattle.memory.proofs.CellLaws.{cell-store-same, word-cell-other}
+use Rattle.memory.proofs.CellLaws.{word-cell-other, store-then}
 use Rattle.solver.specs.declared.direction.Direction.{Direction}
 use Rattle.solver.specs.declared.direction.Direction.the-variants.{Initialization, Liveness}
 use Rattle.solver.specs.Run.{queueOf, placeOf, inRing}
@@ -47,7 +48,7 @@ place-below Liveness n i h = h
 
 module _ (n : ℕ) (order : List ℕ) (h : n ≤ length order) where
   -- there are n
-  queue-length : (d : Direction) → length (queueOf d (take n order)) ≡ n
+  pub queue-length : (d : Direction) → length (queueOf d (take n order)) ≡ n
   queue-length Initialization = length-reverse (take n order) ∙ length-take-le n order h
   queue-length Liveness = length-take-le n order h
 
@@ -59,17 +60,6 @@ module _ (n : ℕ) (order : List ℕ) (h : n ≤ length order) where
       ∙ getD-take n order (n - 1 - i) 0 (omega arith)
   queue-at Liveness i lt = getD-take n order i 0 lt
 
--- ---- the words of z stored over those of xs from the front: k are
-abbrev over : List ℕ → List ℕ → ℕ → List ℕ
-over z xs k = take k z ++ drop k xs
-
--- one more
-over-more : (z xs : List ℕ) (k : ℕ) → length z ≡ length xs → k < length xs → set (over z xs k) k (getD z k 0) ≡ over z xs (suc k)
-over-more z [] k e h = absurd (omega arith)
-over-more [] (x ∷ xs) k e h = absurd (omega arith)
-over-more (y ∷ z) (x ∷ xs) zero e h = refl
-over-more (y ∷ z) (x ∷ xs) (suc k) e h = ap (λ (l : List ℕ). y ∷ l) (over-more z xs k (omega arith) (omega arith))
-
 -- ---- the loop
 module _ (d : Direction) (n : ℕ) (m : Mem) where
   -- what the ring is to be
@@ -78,7 +68,7 @@ module _ (d : Direction) (n : ℕ) (m : Mem) where
 
   -- i words of the ring are filled, and the words are m₁
   pub record Seeding (i : ℕ) (m₁ : Mem) : Type 0 where
-    pub is : m₁ ≡ storeCell m ringCell (take i target ++ drop i (cell m ringCell))
+    pub is : m₁ ≡ storeCell m ringCell (paste (cell m ringCell) 0 target i)
 
   -- before the first word
   pub seeding-none : Seeding 0 m
@@ -103,15 +93,14 @@ module _ (d : Direction) (n : ℕ) (m : Mem) where
         → m₂ ≡ store m₁ ringCell i v → Seeding (i + 1) m₂
     seeding-more {i} {m₁} {m₂} {p} {v} lt g ep ev e₂ = record {
       is =
-          e₂ ∙ ap (λ (w : Mem). store w ringCell i v) (g .is)
-          ∙ ap (λ (ws : List ℕ). storeCell (storeCell m ringCell here) ringCell (set ws i v)) (cell-store-same m ringCell here among)
-          ∙ set-set m ringCell here (set here i v)
-          ∙ ap (storeCell m ringCell) (ap (set here i) value ∙ over-more target (cell m ringCell) i target-length (omega arith))
-          ∙ ap (λ (k : ℕ). storeCell m ringCell (over target (cell m ringCell) k)) (sym (add-one i));
+          e₂ ∙ store-then m ringCell here (λ w ws. set ws i v) among refl (g .is)
+          ∙ ap (storeCell m ringCell)
+          (ap₂ (set here) (sym (zero-add i)) value ∙ paste-suc (cell m ringCell) 0 target i 0 (omega arith) (omega (arith, target-length))
+          ∙ ap (paste (cell m ringCell) 0 target) (sym (add-one i)));
     }
       where
         here : List ℕ
-        here = over target (cell m ringCell) i
+        here = paste (cell m ringCell) 0 target i
 
         value : v ≡ getD target i 0
         value =
@@ -123,6 +112,6 @@ module _ (d : Direction) (n : ℕ) (m : Mem) where
     pub seeding-all : {i : ℕ} {m₁ : Mem} → i ≡ n → Seeding i m₁ → m₁ ≡ inRing d n m
     unfolding inRing
     seeding-all {i} {m₁} e g =
-        g .is ∙ ap (λ (k : ℕ). storeCell m ringCell (over target (cell m ringCell) k)) e
-        ∙ ap (λ (ws : List ℕ). storeCell m ringCell (ws ++ drop n (cell m ringCell)))
+        g .is ∙ ap (λ (k : ℕ). storeCell m ringCell (paste (cell m ringCell) 0 target k)) e
+        ∙ ap₂ (λ (k : ℕ) (ws : List ℕ). storeCell m ringCell (ws ++ drop k (cell m ringCell))) (zero-add n)
         (take-at (queueOf d (take n (cell m orderCell))) (drop n (cell m ringCell)) n (queue-length n (cell m orderCell) ho d))

@@ -5,14 +5,14 @@ use Prim.Native.Nat.{ℕ, _+_, _*_, _-_, _≤_, _<_}
 use native.Mathlib.Omega.{arith}
 use borrow.Author.Tests.{eq-eqb, ne-eqb}
 use lib.ListN.{length, replicate}
-use lib.Seq.{set-set, set-getD}
-use Rattle.bitset.specs.Sets.{ones, meet}
+use lib.Seq.{set-getD}
+use Rattle.bitset.specs.Sets.{ones, meet, join, difference}
 use Rattle.memory.specs.Cells.{Mem, cell, word, storeCell}
 use Rattle.memory.specs.Names.{reachableCell, usesRow, definesRow, parametersRow, initializedRow}
 use Rattle.memory.specs.Scratch.{Row}
 use Rattle.memory.specs.Sets.{SetsRow}
 use Rattle.memory.specs.declared.layout.Layout.{Layout}
-use Rattle.memory.proofs.CellLaws.{cell-store-same, cell-store-other, word-cell-other}
+use Rattle.memory.proofs.CellLaws.{cell-store-same, cell-store-other, word-cell-other, store-then}
 use Rattle.solver.specs.declared.direction.Direction.{Direction}
 use Rattle.solver.specs.declared.direction.Direction.the-variants.{Initialization, Liveness}
 use Rattle.solver.specs.declared.direction.Side.{Side}
@@ -90,13 +90,18 @@ gather-all-kept d y m t x (p ∷ ps) z =
     gather-all-kept d y m t x ps (gatherOne d (storeCell m (runningRow d y) x) t p z)
     ∙ ap (gatherAll d m t ps) (gather-one-kept d y m t x p z)
 
--- and the block's transfer is the same
-transferred-kept : (d : Direction) (y : Layout) (m : Mem) (x : List ℕ) (b : ℕ) (z : List ℕ) → b < y .blocks
-    → transferred d (storeCell m (runningRow d y) x) b z ≡ transferred d m b z
+-- and the block's transfer is the same where its two rows are
+pub transferred-kept : (d : Direction) (m m′ : Mem) (b : ℕ) (z : List ℕ) → cell m′ (definesRow b) ≡ cell m (definesRow b)
+    → cell m′ (usesRow b) ≡ cell m (usesRow b) → transferred d m′ b z ≡ transferred d m b z
 unfolding transferred
-transferred-kept Initialization y m x b z h = rw (row-other Initialization y m x (definesRow b) (omega arith)) refl
-transferred-kept Liveness y m x b z h =
-    rw (row-other Liveness y m x (definesRow b) (omega arith), row-other Liveness y m x (usesRow b) (omega arith)) refl
+transferred-kept Initialization m m′ b z p q = ap (join z) p
+transferred-kept Liveness m m′ b z p q = ap₂ (λ (k u : List ℕ). join (difference z k) u) p q
+
+-- the row begins as x, then a neighbor's is gathered
+pub gathers-one : (d : Direction) (y : Layout) (m t : Mem) → runningRow d y < length m → (p : ℕ) (x : List ℕ) {m₁ m₂ : Mem}
+    → m₁ ≡ storeCell m (runningRow d y) x → m₂ ≡ storeCell m₁ (runningRow d y) (gatherOne d m₁ t p (cell m₁ (runningRow d y)))
+    → m₂ ≡ storeCell m (runningRow d y) (gatherOne d m t p x)
+gathers-one d y m t lt p x e₁ e₂ = e₂ ∙ store-then m (runningRow d y) x (λ w. gatherOne d w t p) lt (gather-one-kept d y m t x p x) e₁
 
 -- ---- the loop over the neighbors behind edge e₀: k of n are gathered, e is the edge last passed, and the words are m₁
 module _ (d : Direction) (y : Layout) (m t : Mem) (side : Side) (n e₀ : ℕ) where
@@ -149,13 +154,8 @@ module _ {d : Direction} {y : Layout} {m t : Mem} {side : Side} {n e₀ : ℕ} w
         z : List ℕ
         z = gatherOne d m t p x
 
-        new : gatherOne d m₁ t p x ≡ z
-        new = ap (λ (w : Mem). gatherOne d w t p (cell m₁ (runningRow d y))) (g .same) ∙ gather-one-kept d y m t x p x
-
         whole : m₂ ≡ storeCell m (runningRow d y) z
-        whole =
-            e₂ ∙ ap (λ (w : Mem). storeCell w (runningRow d y) (gatherOne d m₁ t p x)) (g .same)
-            ∙ set-set m (runningRow d y) x (gatherOne d m₁ t p x) ∙ ap (storeCell m (runningRow d y)) new
+        whole = gathers-one d y m t lt p x (g .same) e₂
 
         here : cell m₂ (runningRow d y) ≡ z
         here = ap (λ (w : Mem). cell w (runningRow d y)) whole ∙ cell-store-same m (runningRow d y) z lt
@@ -181,16 +181,6 @@ module _ {d : Direction} {y : Layout} {m t : Mem} {side : Side} {n e₀ : ℕ} w
 
 -- ---- one function after the other, all on the running row
 module _ (d : Direction) (y : Layout) (m t : Mem) (b : ℕ) (lt : runningRow d y < length m) where
-  -- the row begins as x, then a neighbor's is gathered
-  pub gathers-one : (p : ℕ) (x : List ℕ) {m₁ m₂ : Mem} → m₁ ≡ storeCell m (runningRow d y) x
-      → m₂ ≡ storeCell m₁ (runningRow d y) (gatherOne d m₁ t p (cell m₁ (runningRow d y)))
-      → m₂ ≡ storeCell m (runningRow d y) (gatherOne d m t p x)
-  gathers-one p x e₁ e₂ =
-      e₂ ∙ ap (λ (w : Mem). storeCell w (runningRow d y) (gatherOne d w t p (cell w (runningRow d y)))) e₁
-      ∙ set-set m (runningRow d y) x _
-      ∙ ap (storeCell m (runningRow d y))
-      (gather-one-kept d y m t x p _ ∙ ap (gatherOne d m t p) (cell-store-same m (runningRow d y) x lt))
-
   -- a block without neighbors: the row is as it begins
   pub gathers-none : {n : ℕ} {m₁ : Mem} → n ≡ countOf (readsOf d) m b → n ≡ 0 → m₁ ≡ storeCell m (runningRow d y) (entryOf d y m b)
       → m₁ ≡ storeCell m (runningRow d y) (gathered d y m t b)
@@ -201,9 +191,6 @@ module _ (d : Direction) (y : Layout) (m t : Mem) (b : ℕ) (lt : runningRow d y
       e₁ ∙ ap (λ (l : List ℕ). storeCell m (runningRow d y) (gatherAll d m t l (entryOf d y m b))) (sym none)
 
   module _ {n e : ℕ} (en : n ≡ countOf (readsOf d) m b) (ne : n ≡ 0 → ⊥) (ee : e ≡ firstOf (readsOf d) m b) where
-    some : 0 < n
-    some = omega arith
-
     -- the first neighbor and those behind it are all
     gathers-first : gatherAll d m t (neighborsFrom (readsOf d) m (n - 1) (nextOf (readsOf d) m e)) (gatherOne d m t (endOf (readsOf d) m e) (entryOf d y m b))
         ≡ gathered d y m t b
@@ -211,7 +198,7 @@ module _ (d : Direction) (y : Layout) (m t : Mem) (b : ℕ) (lt : runningRow d y
     gathers-first =
         let z : n - 0 ≡ n = omega arith in
         sym (ap (λ (l : List ℕ). gatherAll d m t l (entryOf d y m b))
-        (ap₂ (neighborsFrom (readsOf d) m) (sym en ∙ sym z) (sym ee) ∙ ends-more (readsOf d) m n 0 e some))
+        (ap₂ (neighborsFrom (readsOf d) m) (sym en ∙ sym z) (sym ee) ∙ ends-more (readsOf d) m n 0 e (omega arith)))
 
     -- it begins with the first neighbor, then the others are gathered
     pub gathers : {p : ℕ} {m₁ m₂ : Mem} → p ≡ endOf (readsOf d) m e
@@ -221,17 +208,13 @@ module _ (d : Direction) (y : Layout) (m t : Mem) (b : ℕ) (lt : runningRow d y
         → m₂ ≡ storeCell m (runningRow d y) (gathered d y m t b)
     gathers {p} ep e₁ e₂ =
         let x : List ℕ = gatherOne d m t p (entryOf d y m b) in
-        e₂
-        ∙ ap (λ (w : Mem). storeCell w (runningRow d y)
-        (gatherAll d w t (neighborsFrom (readsOf d) w (n - 1) (nextOf (readsOf d) w e)) (cell w (runningRow d y)))) e₁
-        ∙ set-set m (runningRow d y) x _
-        ∙ ap (storeCell m (runningRow d y))
-        (gather-all-kept d y m t x _ _
-        ∙ ap₂ (gatherAll d m t)
+        let ps : List ℕ = neighborsFrom (readsOf d) m (n - 1) (nextOf (readsOf d) m e) in
+        e₂ ∙ store-then m (runningRow d y) x (λ w. gatherAll d w t (neighborsFrom (readsOf d) w (n - 1) (nextOf (readsOf d) w e))) lt
+        (gather-all-kept d y m t x _ x
+        ∙ ap (λ (l : List ℕ). gatherAll d m t l x)
         (ends-kept (row-edges d y m x) (readsOf d) (n - 1) _
-        ∙ ap (neighborsFrom (readsOf d) m (n - 1)) (next-kept (row-edges d y m x) (readsOf d) e))
-        (cell-store-same m (runningRow d y) x lt ∙ ap (λ (q : ℕ). gatherOne d m t q (entryOf d y m b)) ep)
-        ∙ gathers-first)
+        ∙ ap (neighborsFrom (readsOf d) m (n - 1)) (next-kept (row-edges d y m x) (readsOf d) e))) e₁
+        ∙ ap (storeCell m (runningRow d y)) (ap (λ (q : ℕ). gatherAll d m t ps (gatherOne d m t q (entryOf d y m b))) ep ∙ gathers-first)
 
   -- it is gathered, then goes through the block
   pub computes : {m₁ m₂ : Mem} → b < y .blocks → m₁ ≡ storeCell m (runningRow d y) (gathered d y m t b)
@@ -240,29 +223,24 @@ module _ (d : Direction) (y : Layout) (m t : Mem) (b : ℕ) (lt : runningRow d y
   unfolding computed
   computes h e₁ e₂ =
       let x : List ℕ = gathered d y m t b in
-      e₂ ∙ ap (λ (w : Mem). storeCell w (runningRow d y) (transferred d w b (cell w (runningRow d y)))) e₁
-      ∙ set-set m (runningRow d y) x _
-      ∙ ap (storeCell m (runningRow d y))
-      (transferred-kept d y m x b _ h ∙ ap (transferred d m b) (cell-store-same m (runningRow d y) x lt))
+      e₂ ∙ store-then m (runningRow d y) x (λ w. transferred d w b) lt
+      (transferred-kept d m _ b x (row-other d y m x (definesRow b) (omega arith)) (row-other d y m x (usesRow b) (omega arith))) e₁
 
 -- ---- the first edge of a block that has one, and those behind it
 module _ (d : Direction) {y : Layout} {m : Mem} (b : ℕ) (h : b < y .blocks) (c : Connected y m) where
   module _ {n e : ℕ} (en : n ≡ countOf (readsOf d) m b) (ne : n ≡ 0 → ⊥) (ee : e ≡ firstOf (readsOf d) m b) where
-    has-first : 0 < n
-    has-first = omega arith
-
     walk-first : Walk y (readsOf d) m n 0 e
     walk-first = walk-none (readsOf d) b h en ee c
 
     -- it has its words
     pub first-edge : e < 2 * y .blocks
-    first-edge = walk-edge has-first walk-first
+    first-edge = walk-edge (omega arith) walk-first
 
     -- it leads to a block
     pub first-end : {p : ℕ} → p ≡ endOf (readsOf d) m e → p < y .blocks
-    first-end q = rw q (walk-end has-first walk-first)
+    first-end q = rw q (walk-end (omega arith) walk-first)
 
     -- those behind it are still there after the row has begun
     pub first-behind : {m₁ : Mem} (x : List ℕ) → m₁ ≡ storeCell m (runningRow d y) x → Behind y (readsOf d) m₁ (n - 1) e
     first-behind x e₁ =
-        subst (λ (w : Mem). Behind y (readsOf d) w (n - 1) e) (sym e₁) (behind-kept (row-edges d y m x) (behind-first has-first walk-first))
+        subst (λ (w : Mem). Behind y (readsOf d) w (n - 1) e) (sym e₁) (behind-kept (row-edges d y m x) (behind-first (omega arith) walk-first))

@@ -51,7 +51,7 @@ returns-2 c =
     let s = now (a .s) in
     let m = scratch y s in
     let lt = sized-among y (scratch-sized s (p .0)) (running-row Initialization y .high) in
-    gathers-one Initialization y m (sets y (now (a .t))) (a .block) lt (a .from) (entryOf Initialization y m (a .block))
+    gathers-one Initialization y m (sets y (now (a .t))) lt (a .from) (entryOf Initialization y m (a .block))
     (begin-initialized .ensures) (meet-one .ensures)
 
 pub begin-met-spec : {M : Type 1} → statement M
