@@ -16,7 +16,7 @@ use Rattle.memory.specs.Names.{reachableCell, successorCountCell, predecessorCo
 use Rattle.memory.specs.Scratch.{scratchWidths}
 use Rattle.memory.specs.declared.layout.Layout.{Layout}
 use Rattle.memory.proofs.CellLaws.{Sized}
-use Rattle.memory.proofs.ScratchLaws.{width-blocks}
+use Rattle.memory.proofs.ScratchLaws.{sized-blocks}
 use Rattle.edges.specs.Edges.{marked}
 use Rattle.edges.specs.Predecessors.{predecessorsOf}
 use Rattle.solver.specs.declared.direction.Direction.{Direction}
@@ -78,7 +78,7 @@ module _ {code : List Instruction} {parameter : ℕ → Bool} {y : Layout} {m : 
   module _ (z : Sized (scratchWidths y) m) where
     -- a word past the blocks
     word-past : (k b : ℕ) → 4 ≤ k → k < 16 → y .blocks ≤ b → word m k b ≡ 0
-    word-past k b lo hi le = List·getD-eq-default (cell m k) 0 (omega (arith, z .wide k, width-blocks y k lo hi))
+    word-past k b lo hi le = List·getD-eq-default (cell m k) 0 (omega (arith, sized-blocks y z k lo hi))
 
     -- no edges are counted there
     count-past : (side : Side) (b : ℕ) → y .blocks ≤ b → countOf side m b ≡ 0

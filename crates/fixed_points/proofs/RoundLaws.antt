@@ -33,7 +33,7 @@ use Rattle.memory.specs.Names.{orderCell, reachableCell}
 use Rattle.memory.specs.Scratch.{scratchWidths}
 use Rattle.memory.specs.declared.layout.Layout.{Layout}
 use Rattle.memory.proofs.CellLaws.{Sized}
-use Rattle.memory.proofs.ScratchLaws.{width-blocks}
+use Rattle.memory.proofs.ScratchLaws.{sized-blocks}
 use Rattle.solver.specs.declared.direction.Direction.{Direction}
 use Rattle.solver.specs.declared.direction.Direction.the-variants.{Initialization, Liveness}
 use Rattle.solver.specs.Neighbors.{readsOf, dependentsOf, neighbors}
@@ -160,7 +160,7 @@ module _ {code : List Instruction} {parameter : ℕ → Bool} {y : Layout} {m : 
       (λ i lt. marks-at (cell m reachableCell) i ∙ reachable-are s f z i)
     where
       long : length (map marked (cell m reachableCell)) ≡ y .blocks
-      long = length-map (cell m reachableCell) marked ∙ z .wide reachableCell ∙ width-blocks y reachableCell (omega arith) (omega arith)
+      long = length-map (cell m reachableCell) marked ∙ sized-blocks y z reachableCell (omega arith) (omega arith)
 
       visited-long : length (swept code .visited) ≡ y .blocks
       visited-long = seed-sound code parameter (s .slots) (y .words) (s .checked) (s .wide) analyses.initialization .len ∙ sym (f .blocks)

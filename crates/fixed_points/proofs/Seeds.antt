@@ -18,7 +18,7 @@ use Rattle.memory.specs.Names.{flag, orderCell, reachableCell}
 use Rattle.memory.specs.Scratch.{scratchWidths}
 use Rattle.memory.specs.declared.layout.Layout.{Layout}
 use Rattle.memory.proofs.CellLaws.{Sized}
-use Rattle.memory.proofs.ScratchLaws.{width-blocks}
+use Rattle.memory.proofs.ScratchLaws.{sized-blocks}
 use Rattle.propagate.specs.Rounds.{Seedable}
 use Rattle.edges.specs.Flow.{Flows}
 use Rattle.fixed_points.specs.FixedPoints.{Scripted}
@@ -80,8 +80,7 @@ module _ {code : List Instruction} {parameter : ℕ → Bool} {y : Layout} {m : 
       arith,
       order-few,
       sum-few (cell m reachableCell) (flags-few s f z),
-      z .wide reachableCell,
-      width-blocks y reachableCell (omega arith) (omega arith),
+      sized-blocks y z reachableCell (omega arith) (omega arith),
     );
     order = order-word;
     flags = flags-few s f z;

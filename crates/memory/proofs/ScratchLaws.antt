@@ -123,6 +123,9 @@ module _ (y : Layout) {m : Mem} (z : Sized (scratchWidths y) m) where
   pub sized-among : {k : ℕ} → k < scratchCells y → k < length m
   sized-among h = omega (arith, scratch-count y)
 
+  pub sized-blocks : (k : ℕ) → 4 ≤ k → k < 16 → length (cell m k) ≡ y .blocks
+  sized-blocks k g h = z .wide k ∙ width-blocks y k g h
+
   pub sized-row : {k : ℕ} → Row y k → length (cell m k) ≡ y .words
   sized-row {k} r = z .wide k ∙ width-row y k r
 

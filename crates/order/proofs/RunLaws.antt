@@ -11,6 +11,7 @@ use Rattle.memory.specs.Cells.{Mem, cell, word}
 use Rattle.memory.specs.Scratch.{scratchWidths}
 use Rattle.memory.specs.declared.layout.Layout.{Layout}
 use Rattle.memory.proofs.CellLaws.{Sized}
+use Rattle.memory.proofs.ScratchLaws.{sized-blocks}
 use Rattle.budget.specs.declared.FlowBudget.{FlowBudget}
 use Rattle.budget.specs.declared.Limits.{Limits}
 use Rattle.budget.specs.declared.Charged.{Charged}
@@ -24,7 +25,7 @@ use Rattle.order.specs.Postorder.{searchedFrom, chargedIn, Searched}
 use Rattle.order.specs.Turns.{stackOf, searchOf, turned, Good, Kept, Begun, Turned, Resumed}
 use Rattle.order.proofs.SearchEnd.{search-step, search-stop, turns-step, turns-stop, turn-left, few-turns}
 use Rattle.order.proofs.FrameLaws.{frameAt, frames-none, stack-top, holds-kept, kept-trans, rest-below}
-use Rattle.order.proofs.TurnLaws.{wide, good-room}
+use Rattle.order.proofs.TurnLaws.{good-room}
 
 -- the charges of the whole search, one a turn
 abbrev pub turnCharges : (ℕ → List ℕ) → ℕ → List ℕ
@@ -112,7 +113,7 @@ module _ (y : Layout) (l : Limits) (b : FlowBudget) (m₀ : Mem) where
 
   module _ (m : Mem) (z : Sized (scratchWidths y) m) (left : FlowBudget) (top len turn : ℕ) (g : Going m left top len turn) where
     flags : (next : ℕ → List ℕ) → length (searchOf next m top len .visited) ≡ y .blocks
-    flags next = length-map (cell m 15) marked ∙ wide y m z 15 (omega arith) (omega arith)
+    flags next = length-map (cell m 15) marked ∙ sized-blocks y z 15 (omega arith) (omega arith)
 
     module _ (h : 0 < top) where
       below : (next : ℕ → List ℕ) → Holds next y m₀ → (i : ℕ) → i < length (frameAt next m (top - 1) .rest)
@@ -161,7 +162,7 @@ module _ (y : Layout) (l : Limits) (b : FlowBudget) (m₀ : Mem) where
         end next holds = way-whole next y l b (searchOf next m top len) left turn (g .way next holds) (stop next holds)
 
         fit : len ≤ length (cell m 10)
-        fit = rw (wide y m z 10 (omega arith) (omega arith)) (omega (arith, good-room y m z (g .good)))
+        fit = rw (sized-blocks y z 10 (omega arith) (omega arith)) (omega (arith, good-room y m z (g .good)))
 
     -- no frame is left
     pub going-empty : top ≡ 0 → Resumed y l b m₀ m (Ok len left)

@@ -15,7 +15,7 @@ use Rattle.memory.specs.Cells.{Mem, cell, word, store, storeCell}
 use Rattle.memory.specs.Scratch.{scratchWidths}
 use Rattle.memory.specs.declared.layout.Layout.{Layout}
 use Rattle.memory.proofs.CellLaws.{Sized, sized-cell, cell-store-same, cell-store-other}
-use Rattle.memory.proofs.ScratchLaws.{sized-among, width-blocks}
+use Rattle.memory.proofs.ScratchLaws.{sized-among, sized-blocks, width-blocks}
 use Rattle.edges.specs.Edges.{marked, Holds}
 use Rattle.edges.proofs.EdgeLaws.{marked-yes}
 use Rattle.order.specs.Turns.{marks, framesOf, stackOf, searchOf, turned, Good, Kept, Begun, Facing, Entered, Turned, Looked}
@@ -56,13 +56,9 @@ module _ (y : Layout) (m : Mem) (z : Sized (scratchWidths y) m) where
   here : (k : ℕ) → k < 18 → k < length m
   here k h = sized-among y z (omega arith)
 
-  -- the cells of a word a block
-  pub wide : (k : ℕ) → 4 ≤ k → k < 16 → length (cell m k) ≡ y .blocks
-  wide k g h = z .wide k ∙ width-blocks y k g h
-
   -- the stack and the finished blocks have room
   pub marks-room : (n : ℕ) → n ≤ marks (cell m 15) → n ≤ y .blocks
-  marks-room n h = omega (arith, marks-fit (cell m 15), wide 15 (omega arith) (omega arith))
+  marks-room n h = omega (arith, marks-fit (cell m 15), sized-blocks y z 15 (omega arith) (omega arith))
 
   pub good-room : {top len : ℕ} → Good y m top len → top + len ≤ y .blocks
   good-room {top} {len} g = marks-room (top + len) (omega (arith, g .counted))
@@ -96,8 +92,8 @@ module _ (y : Layout) (m : Mem) (z : Sized (scratchWidths y) m) where
     enter-room e hb h =
         omega (
           arith,
-          marks-miss (cell m 15) block (rw (wide 15 (omega arith) (omega arith)) hb) e,
-          wide 15 (omega arith) (omega arith),
+          marks-miss (cell m 15) block (rw (sized-blocks y z 15 (omega arith) (omega arith)) hb) e,
+          sized-blocks y z 15 (omega arith) (omega arith),
         )
 
     -- the block is visited
@@ -114,21 +110,21 @@ module _ (y : Layout) (m : Mem) (z : Sized (scratchWidths y) m) where
       looks = λ next len.
           rw (e, add-one top) (same-search
           (ap₂ (λ (bs es : List ℕ). framesOf next bs es (suc top)) pushed-blocks pushed-edges
-          ∙ frames-push next (cell m 13) (cell m 14) top block (rw (wide 13 (omega arith) (omega arith)) ht)
-          (rw (wide 14 (omega arith) (omega arith)) ht))
+          ∙ frames-push next (cell m 13) (cell m 14) top block (rw (sized-blocks y z 13 (omega arith) (omega arith)) ht)
+          (rw (sized-blocks y z 14 (omega arith) (omega arith)) ht))
           (ap (map marked) pushed-visited ∙ map-set marked (cell m 15) block 1)
           (ap (λ (x : List ℕ). reverse (take len x)) (pushed-other 10 (λ q. omega arith) (λ q. omega arith) (λ q. omega arith))));
       good = λ len g. record {
         blocks = λ i lt. at g i lt (ℕ-discrete i top);
         counted =
-            omega (arith, g .counted, ap marks pushed-visited, marks-set (cell m 15) block (rw (wide 15 (omega arith) (omega arith)) hb) e);
+            omega (arith, g .counted, ap marks pushed-visited, marks-set (cell m 15) block (rw (sized-blocks y z 15 (omega arith) (omega arith)) hb) e);
       };
       others = λ k a b c d. pushed-other k b c d;
     }
       where
         at : {len : ℕ} → Good y m top len → (i : ℕ) → i < top + 1 → Dec (i ≡ top) → word (pushed m block top) 13 i < y .blocks
         at g i lt (yes q) =
-            rw (pushed-blocks, q, getD-set-same (cell m 13) top block 0 (rw (wide 13 (omega arith) (omega arith)) ht)) hb
+            rw (pushed-blocks, q, getD-set-same (cell m 13) top block 0 (rw (sized-blocks y z 13 (omega arith) (omega arith)) ht)) hb
         at g i lt (no q) = rw (pushed-blocks, getD-set-other (cell m 13) top i block 0 q) (g .blocks i (omega arith))
 
     pub entered : (m′ : Mem) → m′ ≡ pushed m block top → word m 15 block ≡ 0 → block < y .blocks → top < y .blocks
@@ -152,7 +148,7 @@ module _ (y : Layout) (m : Mem) (z : Sized (scratchWidths y) m) where
           (ap₂ (λ (bs es : List ℕ). framesOf next bs es (top - 1)) (finish-other 13 (λ q. omega arith)) (finish-other 14 (λ q. omega arith)))
           (ap (map marked) (finish-other 15 (λ q. omega arith)))
           (ap (λ (x : List ℕ). reverse (take (len + 1) x)) finish-order
-          ∙ rw add-one (ap reverse (take-suc-set (cell m 10) len b (rw (wide 10 (omega arith) (omega arith)) fit))
+          ∙ rw add-one (ap reverse (take-suc-set (cell m 10) len b (rw (sized-blocks y z 10 (omega arith) (omega arith)) fit))
           ∙ reverse-append (take len (cell m 10)) (b ∷ [])))
           ∙ sym (turned-top next m top len h
           ∙ ap (λ (l : List ℕ). advance next b l (stackOf next m (top - 1)) (searchOf next m top len))
@@ -205,7 +201,7 @@ module _ (y : Layout) (m : Mem) (z : Sized (scratchWidths y) m) where
         let n : edge + 1 ≡ suc edge = omega arith in
         ap₂ (λ (bs es : List ℕ). framesOf next bs es top) (moved-other 13 (λ q. omega arith)) moved-edges
         ∙ ap (framesOf next (cell m 13) (set (cell m 14) (top - 1) (edge + 1))) s
-        ∙ frames-next next (cell m 13) (cell m 14) (top - 1) (edge + 1) (rw (wide 14 (omega arith) (omega arith)) (omega (arith, look-room)))
+        ∙ frames-next next (cell m 13) (cell m 14) (top - 1) (edge + 1) (rw (sized-blocks y z 14 (omega arith) (omega arith)) (omega (arith, look-room)))
         ∙ rw (n, ← f .atBlock) refl
 
     -- where it leads

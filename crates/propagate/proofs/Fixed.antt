@@ -1,7 +1,7 @@
 -- What a round leaves alone, and what it computes from that: edges, neighbors, a block's new row. Assumes nothing.
-use mathlib.Core.Path.{_≡_, refl, sym, ap, ap₂, _∙_, subst}
+use mathlib.Core.Path.{_≡_, refl, sym, ap, ap₂, _∙_}
 use mathlib.Core.Logic.{_≢_}
-use mathlib.Core.List.{List, [], _∷_, map}
+use mathlib.Core.List.{List, [], _∷_}
 use Prim.Native.Nat.{ℕ, zero, suc, _+_, _*_, _≤_, _<_}
 use native.Mathlib.Omega.{arith}
 use native.Mathlib.Decide.{ℕ-discrete}
@@ -9,7 +9,7 @@ use native.Mathlib.Nat.{zero-add}
 use lib.Dec.{eqb}
 use lib.ListN.{length, getD, set, replicate, length-set, length-map}
 use lib.Seq.{getD-set-same, getD-set-other, ext-getD}
-use Rattle.bitset.specs.Sets.{ones, meet, join, difference}
+use Rattle.bitset.specs.Sets.{ones, meet, join}
 use Rattle.dataflow.specs.Lists.{pick}
 use Rattle.dataflow.proofs.Lists.{length-tabulate, getD-tabulate}
 use Rattle.memory.specs.Cells.{Mem, cell, word, storeCell}
@@ -21,10 +21,10 @@ use Rattle.edges.specs.Predecessors.{AllBelow}
 use Rattle.solver.specs.declared.direction.Direction.{Direction}
 use Rattle.solver.specs.declared.direction.Direction.the-variants.{Initialization, Liveness}
 use Rattle.solver.specs.declared.direction.Side.{Side}
-use Rattle.solver.specs.declared.direction.Side.the-variants.{Successors, Predecessors}
 use Rattle.solver.specs.Neighbors.{readsOf, countOf, firstOf, nextOf, endOf, edgesFrom, neighborsFrom, neighbors, Connected}
 use Rattle.solver.specs.Transfer.{runningRow, keptRow, entryOf, gatherOne, gatherAll, gathered, transferred, computed}
-use Rattle.solver.proofs.TransferLaws.{running-at}
+use Rattle.solver.proofs.NeighborLaws.{SameEdges, neighbors-kept}
+use Rattle.solver.proofs.TransferLaws.{running-at, transferred-kept}
 use Rattle.propagate.specs.Rounds.{rowsOf, gatherRow, gatherRows, rowSolver}
 
 -- ---- the rows that a round keeps
@@ -94,60 +94,22 @@ module _ {d : Direction} {y : Layout} {m₀ : Mem} where
     pub fixed-running : (ws : List ℕ) → Fixed d y m₀ (storeCell m (runningRow d y) ws)
     fixed-running ws = record { others = λ k a b c. cell-store-other m (runningRow d y) ws k c ∙ f .others k a b c }
 
-    -- a word of a cell that is not the ring's and not the marks'
-    fixed-word : (k i : ℕ) → k < 18 → (k ≡ ringCell → ⊥) → (k ≡ queuedCell → ⊥) → word m k i ≡ word m₀ k i
-    fixed-word k i lt a b = ap (λ (c : List ℕ). getD c i 0) (f .others k a b (not-running d y k (omega arith)))
+    -- a cell that is not the ring's and not the marks'
+    fixed-cell : (k : ℕ) → k < 18 → (k ≡ ringCell → ⊥) → (k ≡ queuedCell → ⊥) → cell m k ≡ cell m₀ k
+    fixed-cell k lt a b = f .others k a b (not-running d y k (omega arith))
 
     -- who is reachable
     pub fixed-reachable : (i : ℕ) → word m reachableCell i ≡ word m₀ reachableCell i
-    fixed-reachable i = fixed-word reachableCell i (omega arith) (λ e. omega arith) (λ e. omega arith)
+    fixed-reachable i = ap (λ (c : List ℕ). getD c i 0) (fixed-cell reachableCell (omega arith) (λ e. omega arith) (λ e. omega arith))
 
-    -- ---- edges
-    pub fixed-count : (side : Side) (b : ℕ) → countOf side m b ≡ countOf side m₀ b
-    fixed-count Successors b = fixed-word successorCountCell b (omega arith) (λ e. omega arith) (λ e. omega arith)
-    fixed-count Predecessors b = fixed-word predecessorCountCell b (omega arith) (λ e. omega arith) (λ e. omega arith)
-
-    fixed-first : (side : Side) (b : ℕ) → firstOf side m b ≡ firstOf side m₀ b
-    fixed-first Successors b = refl
-    fixed-first Predecessors b = fixed-word firstEdgeCell b (omega arith) (λ e. omega arith) (λ e. omega arith)
-
-    fixed-next : (side : Side) (e : ℕ) → nextOf side m e ≡ nextOf side m₀ e
-    fixed-next Successors e = refl
-    fixed-next Predecessors e = fixed-word nextEdgeCell e (omega arith) (λ q. omega arith) (λ q. omega arith)
-
-    fixed-end : (side : Side) (e : ℕ) → endOf side m e ≡ endOf side m₀ e
-    fixed-end Successors e = fixed-word successorCell e (omega arith) (λ q. omega arith) (λ q. omega arith)
-    fixed-end Predecessors e = refl
-
-    -- n edges from e on
-    fixed-edges-from : (side : Side) (n e : ℕ) → edgesFrom side m n e ≡ edgesFrom side m₀ n e
-    unfolding edgesFrom
-    fixed-edges-from side zero e = refl
-    fixed-edges-from side (suc n) e =
-        ap (λ (es : List ℕ). e ∷ es) (ap (edgesFrom side m n) (fixed-next side e) ∙ fixed-edges-from side n (nextOf side m₀ e))
-
-    -- the edges of a block
-    pub fixed-edges : (side : Side) (b : ℕ)
-        → edgesFrom side m (countOf side m b) (firstOf side m b) ≡ edgesFrom side m₀ (countOf side m₀ b) (firstOf side m₀ b)
-    fixed-edges side b =
-        ap₂ (edgesFrom side m) (fixed-count side b) (fixed-first side b) ∙ fixed-edges-from side (countOf side m₀ b) (firstOf side m₀ b)
-
-    map-ends : (side : Side) (es : List ℕ) → map (endOf side m) es ≡ map (endOf side m₀) es
-    map-ends side [] = refl
-    map-ends side (e ∷ es) = ap₂ (λ (x : ℕ) (l : List ℕ). x ∷ l) (fixed-end side e) (map-ends side es)
-
-    -- the blocks at their other ends
-    pub fixed-neighbors : (side : Side) (b : ℕ) → neighbors side m b ≡ neighbors side m₀ b
-    unfolding neighborsFrom
-    fixed-neighbors side b =
-        ap (map (endOf side m)) (fixed-edges side b) ∙ map-ends side (edgesFrom side m₀ (countOf side m₀ b) (firstOf side m₀ b))
-
-    -- the edges still have their words and lead to blocks
-    pub fixed-connected : Connected y m₀ → Connected y m
-    fixed-connected h = record {
-      edges = λ side b lt. subst (λ (es : List ℕ). AllBelow (2 * y .blocks) es) (sym (fixed-edges side b)) (h .edges side b lt);
-      ends = λ side b lt. subst (λ (es : List ℕ). AllBelow (y .blocks) es) (sym (fixed-neighbors side b)) (h .ends side b lt);
-      few = λ side b lt. rw (fixed-count side b) (h .few side b lt);
+    -- the cells of edges
+    pub fixed-edges : SameEdges m₀ m
+    fixed-edges = record {
+      successors = fixed-cell successorCell (omega arith) (λ e. omega arith) (λ e. omega arith);
+      successorCounts = fixed-cell successorCountCell (omega arith) (λ e. omega arith) (λ e. omega arith);
+      firstEdges = fixed-cell firstEdgeCell (omega arith) (λ e. omega arith) (λ e. omega arith);
+      nextEdges = fixed-cell nextEdgeCell (omega arith) (λ e. omega arith) (λ e. omega arith);
+      predecessorCounts = fixed-cell predecessorCountCell (omega arith) (λ e. omega arith) (λ e. omega arith);
     }
 
 -- as many neighbors as the count says
@@ -173,21 +135,12 @@ module _ {d : Direction} {y : Layout} {m₀ m : Mem} (f : Fixed d y m₀ m) wher
           (f .others (parametersRow (y .blocks)) (λ r. omega arith) (λ r. omega arith) (λ r. omega (arith, running-at d y .1)))
       go Liveness q = refl
 
-  module _ (b : ℕ) (lt : b < y .blocks) where
-    -- the transfer of a block
-    fixed-transferred : (x : List ℕ) → transferred d m b x ≡ transferred d m₀ b x
-    unfolding transferred
-    fixed-transferred x = go d
-      where
-        defines : cell m (definesRow b) ≡ cell m₀ (definesRow b)
-        defines = f .others (definesRow b) (λ r. omega arith) (λ r. omega arith) (not-running d y (definesRow b) (omega arith))
-
-        uses : cell m (usesRow b) ≡ cell m₀ (usesRow b)
-        uses = f .others (usesRow b) (λ r. omega arith) (λ r. omega arith) (not-running d y (usesRow b) (omega arith))
-
-        go : (e : Direction) → transferred e m b x ≡ transferred e m₀ b x
-        go Initialization = ap (join x) defines
-        go Liveness = ap₂ (λ (k : List ℕ) (g : List ℕ). join (difference x k) g) defines uses
+  -- the transfer of a block
+  fixed-transferred : (b : ℕ) → b < y .blocks → (x : List ℕ) → transferred d m b x ≡ transferred d m₀ b x
+  fixed-transferred b lt x =
+      transferred-kept d m₀ m b x
+      (f .others (definesRow b) (λ r. omega arith) (λ r. omega arith) (not-running d y (definesRow b) (omega arith)))
+      (f .others (usesRow b) (λ r. omega arith) (λ r. omega arith) (not-running d y (usesRow b) (omega arith)))
 
   module _ (t : Mem) where
     -- a row with what block p keeps, and with what each of a list keeps
@@ -212,5 +165,5 @@ module _ {d : Direction} {y : Layout} {m₀ m : Mem} (f : Fixed d y m₀ m) wher
     unfolding computed gathered
     fixed-computed h b lt =
         fixed-transferred b lt (gathered d y m t b)
-        ∙ ap (transferred d m₀ b) (ap₂ (gatherAll d m t) (fixed-neighbors f (readsOf d) b) (fixed-entry b)
+        ∙ ap (transferred d m₀ b) (ap₂ (gatherAll d m t) (neighbors-kept (fixed-edges f) (readsOf d) b) (fixed-entry b)
         ∙ gather-all (neighbors (readsOf d) m₀ b) (entryOf d y m₀ b) (h .ends (readsOf d) b lt))

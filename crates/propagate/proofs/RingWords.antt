@@ -5,7 +5,6 @@ use mathlib.Core.List.{List, [], _∷_, _++_, map, reverseAux}
 use Prim.Native.Nat.{ℕ, zero, suc, _+_, _-_, _≤_, _<_}
 use native.Mathlib.Omega.{arith}
 use native.Mathlib.Decide.{decLt}
-use borrow.Author.Tests.{lt-ltb, le-ltb}
 use lib.ListN.{length, getD, set, take, drop, replicate, List·getD-map}
 use lib.Seq.{getD-set-same, getD-set-other, drop-cons, take-at}
 use Rattle.dataflow.specs.Lists.{sum}
@@ -13,6 +12,7 @@ use Rattle.memory.specs.declared.layout.Layout.{Layout}
 use Rattle.edges.specs.Edges.{marked}
 use Rattle.edges.specs.Predecessors.{AllBelow}
 use Rattle.solver.specs.Run.{wrap}
+use Rattle.solver.proofs.RingLaws.{wrap-below, wrap-past, wrap-lt}
 
 -- ---- the queue
 
@@ -22,48 +22,36 @@ ringWords y r h zero = []
 ringWords y r h (suc n) = getD r h 0 ∷ ringWords y r (wrap y (h + 1)) n
 
 module _ (y : Layout) where
-  -- a place that does not wrap, and one that does
-  wrap-in : (i : ℕ) → i < y .blocks → wrap y i ≡ i
-  wrap-in i h = rw (lt-ltb i (y .blocks) h) refl
-
-  wrap-out : (i : ℕ) → y .blocks ≤ i → wrap y i ≡ i - y .blocks
-  wrap-out i h = rw (le-ltb i (y .blocks) h) refl
-
   -- one place further on
-  wrap-next : (h n : ℕ) → h < y .blocks → n < y .blocks → (wrap y (h + 1) < y .blocks) × (wrap y (h + suc n) ≡ wrap y (wrap y (h + 1) + n))
+  wrap-next : (h n : ℕ) → h < y .blocks → n < y .blocks → wrap y (h + suc n) ≡ wrap y (wrap y (h + 1) + n)
   wrap-next h n lh ln = go (decLt (h + 1) (y .blocks))
     where
-      go : Dec (h + 1 < y .blocks) → (wrap y (h + 1) < y .blocks) × (wrap y (h + suc n) ≡ wrap y (wrap y (h + 1) + n))
-      go (yes l) = let e : h + suc n ≡ h + 1 + n = omega arith in (rw (wrap-in (h + 1) l) l, rw (wrap-in (h + 1) l, e) refl)
+      go : Dec (h + 1 < y .blocks) → wrap y (h + suc n) ≡ wrap y (wrap y (h + 1) + n)
+      go (yes l) = let e : h + suc n ≡ h + 1 + n = omega arith in rw (wrap-below y (h + 1) l, e) refl
       go (no k) =
-          let z : wrap y (h + 1) ≡ 0 = wrap-out (h + 1) (omega arith) ∙ omega arith in
+          let z : wrap y (h + 1) ≡ 0 = wrap-past y (h + 1) (omega arith) ∙ omega arith in
           let e : h + suc n - y .blocks ≡ 0 + n = omega arith in
-          (rw z (omega arith), rw z (wrap-out (h + suc n) (omega arith) ∙ (e ∙ sym (wrap-in (0 + n) (omega arith)))))
-
-  -- the ring's head stays a place
-  pub wrap-head : (h : ℕ) → h < y .blocks → wrap y (h + 1) < y .blocks
-  wrap-head h lh = wrap-next h 0 lh (omega arith) .0
+          rw z (wrap-past y (h + suc n) (omega arith) ∙ (e ∙ sym (wrap-below y (0 + n) (omega arith))))
 
   -- a later place is another
   wrap-apart : (h n : ℕ) → h < y .blocks → suc n < y .blocks → h ≡ wrap y (h + suc n) → ⊥
   wrap-apart h n lh ln e = go (decLt (h + suc n) (y .blocks))
     where
       go : Dec (h + suc n < y .blocks) → ⊥
-      go (yes l) = omega (arith, e ∙ wrap-in (h + suc n) l)
-      go (no k) = omega (arith, e ∙ wrap-out (h + suc n) (omega arith))
+      go (yes l) = omega (arith, e ∙ wrap-below y (h + suc n) l)
+      go (no k) = omega (arith, e ∙ wrap-past y (h + suc n) (omega arith))
 
   -- a block put behind the last joins the end of the queue
   pub ring-push : (r : List ℕ) (h n d : ℕ) → length r ≡ y .blocks → h < y .blocks → n < y .blocks
       → ringWords y (set r (wrap y (h + n)) d) h (n + 1) ≡ ringWords y r h n ++ (d ∷ [])
   unfolding ringWords
   ring-push r h zero d l lh ln =
-      let e : wrap y (h + 0) ≡ h = ap (wrap y) {x = h + 0} {y = h} (omega arith) ∙ wrap-in h lh in
+      let e : wrap y (h + 0) ≡ h = ap (wrap y) {x = h + 0} {y = h} (omega arith) ∙ wrap-below y h lh in
       rw (e, getD-set-same r h d 0 (omega arith)) refl
   ring-push r h (suc n) d l lh ln =
       let q : suc n + 1 ≡ suc (n + 1) = omega arith in
-      let w = wrap-next h n lh (omega arith) in
       rw (q, getD-set-other r (wrap y (h + suc n)) h d 0 (wrap-apart h n lh ln))
-      (ap (λ (t : List ℕ). getD r h 0 ∷ t) (rw (w .1) (ring-push r (wrap y (h + 1)) n d l (w .0) (omega arith))))
+      (ap (λ (t : List ℕ). getD r h 0 ∷ t) (rw (wrap-next h n lh (omega arith)) (ring-push r (wrap y (h + 1)) n d l (wrap-lt y (h + 1) (omega arith)) (omega arith))))
 
   -- the word at the head is the first of the queue
   pub ring-pop : (r : List ℕ) (h n : ℕ) → (n ≡ 0 → ⊥) → ringWords y r h n ≡ getD r h 0 ∷ ringWords y r (wrap y (h + 1)) (n - 1)
@@ -81,7 +69,7 @@ module _ (y : Layout) where
   ring-straight r h zero fits long = refl
   ring-straight r h (suc zero) fits long = rw (drop-cons r h 0 (omega arith)) refl
   ring-straight r h (suc (suc n)) fits long =
-      let e : wrap y (h + 1) ≡ suc h = wrap-in (h + 1) (omega arith) ∙ omega arith in
+      let e : wrap y (h + 1) ≡ suc h = wrap-below y (h + 1) (omega arith) ∙ omega arith in
       rw (e, drop-cons r h 0 (omega arith))
       (ap (λ (t : List ℕ). getD r h 0 ∷ t) (ring-straight r (suc h) (suc n) (omega arith) (omega arith)))
 

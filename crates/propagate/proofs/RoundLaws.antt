@@ -4,8 +4,7 @@ use mathlib.Core.Bool.{Bool, true, false, true≢false, false≢true}
 use mathlib.Core.List.{List, [], _∷_, _++_, map}
 use Prim.Native.Nat.{ℕ, suc, _+_, _*_, _-_, _≤_}
 use native.Mathlib.Omega.{arith}
-use lib.ListN.{length, take, drop, replicate, length-set, length-map, length-append, length-drop, length-replicate, length-reverse}
-use lib.Seq.{length-take-le}
+use lib.ListN.{length, take, drop, replicate, length-set, length-map, length-append, length-drop, length-replicate}
 use Rattle.dataflow.specs.Worklist as worklist
 use Rattle.dataflow.specs.Charges.{traceCharges}
 use Rattle.dataflow.proofs.Worklist.{run-more}
@@ -21,7 +20,7 @@ use Rattle.memory.specs.Scratch.{scratchWidths}
 use Rattle.memory.specs.Sets.{setsWidths}
 use Rattle.memory.specs.declared.layout.Layout.{Layout}
 use Rattle.memory.proofs.CellLaws.{Sized, cell-store-same, cell-store-other}
-use Rattle.memory.proofs.ScratchLaws.{scratch-count, width-blocks}
+use Rattle.memory.proofs.ScratchLaws.{scratch-count, sized-blocks}
 use Rattle.memory.proofs.SetsLaws.{sets-count}
 use Rattle.edges.specs.Edges.{marked}
 use Rattle.edges.specs.Predecessors.{AllBelow}
@@ -32,21 +31,18 @@ use Rattle.solver.specs.declared.ring.Turn.{Turn}
 use Rattle.solver.specs.declared.ring.Turn.the-variants.{Stop, Done}
 use Rattle.solver.specs.Neighbors.{readsOf, dependentsOf, neighbors}
 use Rattle.solver.specs.Run.{At, Out, stop, on, atOf, outOf, paid, run, Good, Idle, queueOf, inRing, cleared, seeded, full}
+use Rattle.solver.proofs.NeighborLaws.{connected-kept}
+use Rattle.solver.proofs.SeedLaws.{queue-length}
 use Rattle.propagate.specs.Rounds.{rowSolver, beginning, roundRun, roundCharges, chargedOf, Seedable, Propagated}
 use Rattle.propagate.proofs.RingWords.{ringWords, ring-none, ring-full, sum-marks, below-at, below-append, below-reverse, below-drop}
 use Rattle.propagate.proofs.RingWords.{below-zeros, below-take}
-use Rattle.propagate.proofs.Fixed.{Fixed, fixed-none, fixed-ring, fixed-queued, fixed-connected}
+use Rattle.propagate.proofs.Fixed.{Fixed, fixed-none, fixed-ring, fixed-queued, fixed-edges}
 use Rattle.propagate.proofs.Simulation.{Simulates}
 use Rattle.propagate.proofs.Visits.{chargesOf, Follows, follows-run, run-charges, run-parts}
 
 -- ---- the seeding
 
--- as many blocks wait as the order has
-queue-long : (d : Direction) (l : List ℕ) → length (queueOf d l) ≡ length l
-queue-long Initialization l = length-reverse l
-queue-long Liveness l = refl
-
--- and they are blocks
+-- the blocks that wait are blocks where those of the order are
 queue-below : (d : Direction) (n : ℕ) (l : List ℕ) → AllBelow n l → AllBelow n (queueOf d l)
 queue-below Initialization n l h = below-reverse n l [] h tt
 queue-below Liveness n l h = h
@@ -106,8 +102,7 @@ module _ (d : Direction) {y : Layout} {n : ℕ} {m : Mem} (z : Sized (scratchWid
   -- n blocks wait
   waiting-long : length waiting ≡ n
   waiting-long =
-      queue-long d (take n (cell m orderCell))
-      ∙ length-take-le n (cell m orderCell) (omega (arith, z .wide orderCell, width-blocks y orderCell (omega arith) (omega arith), h .count))
+      queue-length n (cell m orderCell) (omega (arith, sized-blocks y z orderCell (omega arith) (omega arith), h .count)) d
 
   -- each a block
   waiting-below : AllBelow (y .blocks) waiting
@@ -122,7 +117,7 @@ module _ (d : Direction) {y : Layout} {n : ℕ} {m : Mem} (z : Sized (scratchWid
   -- scratch that was seeded is good to visit from
   pub seeded-good : Good y (seeded d y n m) (full n)
   seeded-good = record {
-    connected = fixed-connected fixed-seeded (h .connected);
+    connected = connected-kept (fixed-edges fixed-seeded) y (h .connected);
     head = h .some;
     count = rw queued-seeded (h .reached);
     marks = rw queued-seeded (h .flags);
@@ -146,7 +141,7 @@ module _ (d : Direction) {y : Layout} {n : ℕ} {m : Mem} (z : Sized (scratchWid
     marks = ap (map marked) (sym queued-seeded);
     head = h .some;
     room = omega (arith, h .reached, sum-marks (cell m reachableCell) (h .flags));
-    marks-long = length-map (cell m reachableCell) marked ∙ z .wide reachableCell ∙ width-blocks y reachableCell (omega arith) (omega arith);
+    marks-long = length-map (cell m reachableCell) marked ∙ sized-blocks y z reachableCell (omega arith) (omega arith);
     below = waiting-below;
   }
 

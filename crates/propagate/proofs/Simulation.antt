@@ -22,8 +22,9 @@ use Rattle.solver.specs.declared.direction.Direction.{Direction}
 use Rattle.solver.specs.declared.ring.Ring.{Ring}
 use Rattle.solver.specs.Transfer.{runningRow, keptRow}
 use Rattle.solver.specs.Run.{At, atOf, wrap, popped, pushed, offered, firstIn}
+use Rattle.solver.proofs.RingLaws.{wrap-lt, pushed-marks, pushed-ring}
 use Rattle.propagate.specs.Rounds.{rowsOf, rowSolver}
-use Rattle.propagate.proofs.RingWords.{ringWords, ring-push, ring-pop, wrap-head, marks-at}
+use Rattle.propagate.proofs.RingWords.{ringWords, ring-push, ring-pop, marks-at}
 use Rattle.propagate.proofs.RingWords.{trues, trues-few, trues-more, trues-less, below-append}
 use Rattle.propagate.proofs.Fixed.{Fixed, fixed-ring, fixed-queued, fixed-running, fixed-reachable, rows-set, not-running}
 
@@ -75,18 +76,11 @@ module _ {d : Direction} {y : Layout} {m₀ t₀ : Mem} where
     count₁ : length m₁ ≡ length (s .mem)
     count₁ = length-set (s .mem) queuedCell (set (cell (s .mem) queuedCell) c 1)
 
-    ring₁ : cell m₁ ringCell ≡ cell (s .mem) ringCell
-    ring₁ = cell-store-other (s .mem) queuedCell (set (cell (s .mem) queuedCell) c 1) ringCell (λ e. omega arith)
-
     ring₂ : cell m₂ ringCell ≡ set (cell (s .mem) ringCell) place c
-    ring₂ =
-        cell-store-same m₁ ringCell (set (cell m₁ ringCell) place c) (omega (arith, count₁, h .cells))
-        ∙ ap (λ (x : List ℕ). set x place c) ring₁
+    ring₂ = pushed-ring (s .mem) c place (omega (arith, h .cells))
 
     queued₂ : cell m₂ queuedCell ≡ set (cell (s .mem) queuedCell) c 1
-    queued₂ =
-        cell-store-other m₁ ringCell (set (cell m₁ ringCell) place c) queuedCell (λ e. omega arith)
-        ∙ cell-store-same (s .mem) queuedCell (set (cell (s .mem) queuedCell) c 1) (omega (arith, h .cells))
+    queued₂ = pushed-marks (s .mem) c place (omega (arith, h .cells))
 
     -- the mark of c, and whether it is reachable, as the words say
     mark-is : worklist.mark r c ≡ marked (word (s .mem) queuedCell c)
@@ -182,7 +176,7 @@ module _ {d : Direction} {y : Layout} {m₀ t₀ : Mem} where
       marks = ap (λ (q : List Bool). set q (firstIn s) false) (h .marks)
           ∙ sym (ap (map marked) (cell-store-same (s .mem) queuedCell (set (cell (s .mem) queuedCell) (firstIn s) 0) (omega (arith, h .cells)))
           ∙ map-set marked (cell (s .mem) queuedCell) (firstIn s) 0);
-      head = wrap-head y (s .ring .head) (h .head);
+      head = wrap-lt y (s .ring .head + 1) (omega (arith, h .head));
       room = omega (arith, h .room, trues-less (r .marks) (firstIn s));
       marks-long = length-set (r .marks) (firstIn s) false ∙ h .marks-long;
       below = all-below .1;

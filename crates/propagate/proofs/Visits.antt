@@ -29,10 +29,11 @@ use Rattle.solver.specs.Neighbors.{readsOf, dependentsOf, neighbors, Connected}
 use Rattle.solver.specs.Transfer.{runningRow, keptRow, computed}
 use Rattle.solver.specs.Run.{At, Out, on, atOf, paid, onward, popped, offered, told, settled, visitCharge, firstIn, unmarked, withComputed, visited}
 use Rattle.solver.specs.Run.{run}
+use Rattle.solver.proofs.NeighborLaws.{count-kept, neighbors-kept}
 use Rattle.solver.proofs.TransferLaws.{running-at}
 use Rattle.propagate.specs.Rounds.{rowSolver}
 use Rattle.propagate.proofs.RingWords.{ring-none}
-use Rattle.propagate.proofs.Fixed.{fixed-count, fixed-neighbors, fixed-computed, neighbors-long, rows-at}
+use Rattle.propagate.proofs.Fixed.{fixed-edges, fixed-computed, neighbors-long, rows-at}
 use Rattle.propagate.proofs.Simulation.{Simulates, offeredAll, behind, simulates-told, simulates-first, first-below, simulates-popped}
 use Rattle.propagate.proofs.Simulation.{simulates-computed, simulates-stored}
 
@@ -157,11 +158,11 @@ module _ (d : Direction) (y : Layout) (l : Limits) (m₀ t₀ : Mem) where
 
       -- whom a change is told
       dependents : neighbors (dependentsOf d) (s₂ .mem) c ≡ neighbors (dependentsOf d) m₀ c
-      dependents = fixed-neighbors (two .fixed) (dependentsOf d) c
+      dependents = neighbors-kept (fixed-edges (two .fixed)) (dependentsOf d) c
 
       -- what the visit is charged
       fee : visitCharge d y (unmarked s) c ≡ y .words * (length (neighbors (readsOf d) m₀ c) + 3) + 1
-      fee = ap (λ (n : ℕ). y .words * (n + 3) + 1) (fixed-count (one .fixed) (readsOf d) c ∙ sym (neighbors-long (readsOf d) m₀ c))
+      fee = ap (λ (n : ℕ). y .words * (n + 3) + 1) (count-kept (fixed-edges (one .fixed)) (readsOf d) c ∙ sym (neighbors-long (readsOf d) m₀ c))
 
       -- a visit, by the test of the rows
       abbrev settling : Bool → FlowBudget → Out

@@ -5,15 +5,15 @@ use Prim.Native.Nat.{ℕ, zero, suc, _+_, _*_, _-_, _≤_, _<_}
 use native.Mathlib.Omega.{arith}
 use native.Mathlib.Decide.{decLt, ℕ-discrete}
 use borrow.Author.Tests.{eq-eqb, ne-eqb, lt-ltb, le-ltb}
-use lib.ListN.{length, getD, set}
+use lib.ListN.{length, getD, set, length-set}
 use lib.Seq.{getD-set-same, getD-set-other}
 use Rattle.dataflow.specs.Lists.{sum}
 use Rattle.memory.specs.Cells.{Mem, cell, word, store, storeCell}
 use Rattle.memory.specs.Names.{queuedCell, reachableCell, ringCell}
 use Rattle.memory.specs.Scratch.{scratchWidths}
 use Rattle.memory.specs.declared.layout.Layout.{Layout}
-use Rattle.memory.proofs.CellLaws.{Sized, cell-store-same, cell-store-other, sized-store}
-use Rattle.memory.proofs.ScratchLaws.{sized-among, width-blocks}
+use Rattle.memory.proofs.CellLaws.{Sized, cell-store-same, cell-store-other}
+use Rattle.memory.proofs.ScratchLaws.{sized-among, sized-blocks}
 use Rattle.solver.specs.declared.ring.Ring.{Ring}
 use Rattle.solver.specs.Run.{At, atOf, wrap, pushed, offered, popped, Good, Offers}
 use Rattle.solver.proofs.NeighborLaws.{SameEdges, same-none, same-stored, same-then, connected-kept}
@@ -43,11 +43,11 @@ set-all P l i v h p lt j = go (ℕ-discrete j i)
 -- ---- a place of the ring
 
 -- before the end it is where it is
-pub wrap-below : (y : Layout) (i : ℕ) → i < y .blocks → i ≡ wrap y i
+pub wrap-below : (y : Layout) (i : ℕ) → i < y .blocks → wrap y i ≡ i
 wrap-below y i h = rw (lt-ltb i (y .blocks) h) refl
 
 -- behind it it begins again
-pub wrap-past : (y : Layout) (i : ℕ) → y .blocks ≤ i → i - y .blocks ≡ wrap y i
+pub wrap-past : (y : Layout) (i : ℕ) → y .blocks ≤ i → wrap y i ≡ i - y .blocks
 wrap-past y i h = rw (le-ltb i (y .blocks) h) refl
 
 -- so it is a place
@@ -55,8 +55,8 @@ pub wrap-lt : (y : Layout) (i : ℕ) → i < 2 * y .blocks → wrap y i < y .blo
 wrap-lt y i h = go (decLt i (y .blocks))
   where
     go : Dec (i < y .blocks) → wrap y i < y .blocks
-    go (yes l) = rw (lt-ltb i (y .blocks) l) l
-    go (no n) = rw (le-ltb i (y .blocks) (omega arith)) (omega arith)
+    go (yes l) = rw (wrap-below y i l) l
+    go (no n) = rw (wrap-past y i (omega arith)) (omega arith)
 
 -- ---- a store into a row
 pub good-row : (y : Layout) (m : Mem) {m′ : Mem} (k : ℕ) (x : List ℕ) (g : Ring) → 18 ≤ k → m′ ≡ storeCell m k x → Good y m g → Good y m′ g
@@ -68,14 +68,28 @@ good-row y m k x g lo e h = rw e record {
   ring = rw (cell-store-other m k x ringCell (λ q. omega arith)) (h .ring);
 }
 
+-- ---- what the two stores of a push leave: block d has its mark, and stands at place i
+module _ (m : Mem) (d i : ℕ) (h : queuedCell < length m) where
+  -- the marks
+  pub pushed-marks : cell (store (store m queuedCell d 1) ringCell i d) queuedCell ≡ set (cell m queuedCell) d 1
+  pushed-marks =
+      cell-store-other (store m queuedCell d 1) ringCell _ queuedCell (λ e. omega arith)
+      ∙ cell-store-same m queuedCell (set (cell m queuedCell) d 1) h
+
+  -- the ring
+  pub pushed-ring : cell (store (store m queuedCell d 1) ringCell i d) ringCell ≡ set (cell m ringCell) i d
+  pushed-ring =
+      cell-store-same (store m queuedCell d 1) ringCell _ (omega (arith, length-set m queuedCell (set (cell m queuedCell) d 1)))
+      ∙ ap (λ (ws : List ℕ). set ws i d) (cell-store-other m queuedCell (set (cell m queuedCell) d 1) ringCell (λ e. omega arith))
+
 module _ (y : Layout) (m : Mem) (z : Sized (scratchWidths y) m) where
   -- a mark a block
   marks-long : length (cell m queuedCell) ≡ y .blocks
-  marks-long = z .wide queuedCell ∙ width-blocks y queuedCell (omega arith) (omega arith)
+  marks-long = sized-blocks y z queuedCell (omega arith) (omega arith)
 
   -- a place a block
   ring-long : length (cell m ringCell) ≡ y .blocks
-  ring-long = z .wide ringCell ∙ width-blocks y ringCell (omega arith) (omega arith)
+  ring-long = sized-blocks y z ringCell (omega arith) (omega arith)
 
   -- no more blocks wait than there are
   pub good-count : (g : Ring) → Good y m g → g .count ≤ y .blocks
@@ -97,20 +111,14 @@ module _ (y : Layout) (m : Mem) (z : Sized (scratchWidths y) m) where
   pushed-good t g d hd u h = record {
     connected = connected-kept (pushed-edges t g d) y (h .connected);
     head = h .head;
-    count = rw queued (omega (arith, h .count, sum-set q d 1 (omega (arith, marks-long)), u));
-    marks = rw queued (set-all (λ j v. v ≤ 1) q d 1 (h .marks) (omega arith) (omega (arith, marks-long)));
-    ring = rw ring (λ i hi.
-        set-all (λ j v. j < y .blocks → v < y .blocks) r at d (h .ring) (λ _. hd) (omega (arith, ring-long, at-lt)) i hi);
+    count = rw (pushed-marks m d at among) (omega (arith, h .count, sum-set q d 1 (omega (arith, marks-long)), u));
+    marks = rw (pushed-marks m d at among) (set-all (λ j v. v ≤ 1) q d 1 (h .marks) (omega arith) (omega (arith, marks-long)));
+    ring = rw (pushed-ring m d at among) (λ i hi.
+        set-all (λ j v. j < y .blocks → v < y .blocks) (cell m ringCell) at d (h .ring) (λ _. hd) (omega (arith, ring-long, at-lt)) i hi);
   }
     where
       q : List ℕ
       q = cell m queuedCell
-
-      r : List ℕ
-      r = cell m ringCell
-
-      m₁ : Mem
-      m₁ = store m queuedCell d 1
 
       at : ℕ
       at = wrap y (g .head + g .count)
@@ -118,16 +126,8 @@ module _ (y : Layout) (m : Mem) (z : Sized (scratchWidths y) m) where
       at-lt : at < y .blocks
       at-lt = wrap-lt y (g .head + g .count) (omega (arith, h .head, good-count g h))
 
-      queued : cell (store m₁ ringCell at d) queuedCell ≡ set q d 1
-      queued = cell-store-other m₁ ringCell _ queuedCell (λ e. omega arith) ∙ cell-store-same m queuedCell (set q d 1) (sized-among y z (omega arith))
-
-      old : cell m₁ ringCell ≡ r
-      old = cell-store-other m queuedCell _ ringCell (λ e. omega arith)
-
-      ring : cell (store m₁ ringCell at d) ringCell ≡ set r at d
-      ring =
-          cell-store-same m₁ ringCell _ (sized-among y (sized-store (scratchWidths y) m queuedCell d 1 z) (omega arith))
-          ∙ ap (λ (ws : List ℕ). set ws at d) old
+      among : queuedCell < length m
+      among = sized-among y z (omega arith)
 
   -- ---- the first block leaves the ring, its mark with it
   pub popped-good : (g : Ring) (b : ℕ) → b < y .blocks → Good y m g → Good y (store m queuedCell b 0) (popped y g)

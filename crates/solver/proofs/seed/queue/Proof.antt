@@ -7,7 +7,7 @@ use denote.Ref.{now}
 use borrow.Author.Needs.{needs}
 use Rattle.memory.specs.Names.{orderCell, ringCell}
 use Rattle.memory.specs.Scratch.{scratch}
-use Rattle.memory.proofs.ScratchLaws.{scratch-sized, sized-among, place-blocks, width-blocks}
+use Rattle.memory.proofs.ScratchLaws.{scratch-sized, sized-among, place-blocks, sized-blocks}
 use Rattle.solver.proofs.SeedLaws.{Seeding, seeding-none, seeding-more, seeding-all, place-below}
 use Rattle.solver.proofs.seed.queue.Statement.{statement}
 use Rattle.solver.proofs.seed.queue.Tie as tie
@@ -64,8 +64,8 @@ loop-again c =
       omega (arith, loop-test .taken),
       put .kept .0 ∙ l .inv .1,
       seeding-more (a .d) (a .n) _ (sized-among y z (omega arith))
-          (omega (arith, p .1, z .wide orderCell, width-blocks y orderCell (omega arith) (omega arith)))
-          (omega (arith, p .1, z .wide ringCell, width-blocks y ringCell (omega arith) (omega arith))) (loop-test .taken) (l .inv .2)
+          (omega (arith, p .1, sized-blocks y z orderCell (omega arith) (omega arith)))
+          (omega (arith, p .1, sized-blocks y z ringCell (omega arith) (omega arith))) (loop-test .taken) (l .inv .2)
           (place .ensures) (get .ensures) (put .ensures),
     )
 
@@ -80,8 +80,8 @@ returns c =
     let y = a .y in
     let z = scratch-sized (now (a .s)) (p .0) in
     seeding-all (a .d) (a .n) _ (sized-among y z (omega arith))
-    (omega (arith, p .1, z .wide orderCell, width-blocks y orderCell (omega arith) (omega arith)))
-    (omega (arith, p .1, z .wide ringCell, width-blocks y ringCell (omega arith) (omega arith)))
+    (omega (arith, p .1, sized-blocks y z orderCell (omega arith) (omega arith)))
+    (omega (arith, p .1, sized-blocks y z ringCell (omega arith) (omega arith)))
     (omega (arith, l .inv .0, c .loop-test .left)) (l .inv .2)
 
 pub queue-spec : {M : Type 1} → statement M
