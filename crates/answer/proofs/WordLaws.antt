@@ -7,11 +7,10 @@ use native.Mathlib.Decide.{decLt}
 use native.Mathlib.Nat.{pow-suc}
 use native.Mathlib.Omega.{arith}
 use lib.Dec.{eqb, lit<}
-use lib.ListN.{length, getD, replicate, List·getD-eq-default}
-use lib.Pow.{shr-shr}
-use Rattle.bitset.specs.Sets.{ones, digit, member, Words}
-use Rattle.bitset.proofs.Digits.{bit}
-use Rattle.bitset.proofs.SetLaws.{member-ones, member-zero, same-exact, words-replicate}
+use lib.ListN.{length, getD, List·getD-eq-default}
+use Rattle.bitset.specs.Sets.{digit, member, Words}
+use Rattle.bitset.proofs.Digits.{bit, digit-next}
+use Rattle.bitset.proofs.SetLaws.{same-exact}
 use Rattle.answer.specs.Words.{one, numberOf, wordsFrom, wordsOf, Means}
 
 -- ---- a truth value as a digit
@@ -35,11 +34,7 @@ digit-first b m h = omega arith
 
 -- the digits before it are those of half of the number
 digit-later : (b m j : ℕ) → b < 2 → digit (b + 2 * m) (suc j) ≡ digit m j
-unfolding digit
-digit-later b m j h =
-    ap (λ (x : ℕ). (b + 2 * m) / 2 ^ x % 2) (let e : suc j ≡ 1 + j = omega arith in e)
-    ∙ ap (λ (x : ℕ). x % 2) (sym (shr-shr (b + 2 * m) 1 j))
-    ∙ ap (λ (x : ℕ). x / 2 ^ j % 2) (let e : (b + 2 * m) / 2 ^ 1 ≡ m = omega arith in e)
+digit-later b m j h = digit-next (b + 2 * m) j ∙ ap (λ (x : ℕ). digit x j) (let e : (b + 2 * m) / 2 ≡ m = omega arith in e)
 
 module _ (f : ℕ → Bool) where
   -- a number of n bits is below 2 ^ n
@@ -93,15 +88,3 @@ module _ (f : ℕ → Bool) where
 -- words that stand for a set are its words
 pub means-words : {w : ℕ} {ws : List ℕ} {f : ℕ → Bool} → Words w ws → Means w ws f → ws ≡ wordsOf w f
 means-words {w} {ws} {f} h e = same-exact h (words-of f w) .1 (λ i lt. e i lt ∙ sym (wordsOf-means f w i lt))
-
--- sets that agree on the slots have the same words
-pub wordsOf-ext : (w : ℕ) {f g : ℕ → Bool} → ((i : ℕ) → i < 64 * w → f i ≡ g i) → wordsOf w f ≡ wordsOf w g
-wordsOf-ext w {f} {g} e = means-words (words-of f w) (λ i lt. wordsOf-means f w i lt ∙ e i lt)
-
--- all slots
-pub ones-words : (w : ℕ) → wordsOf w (λ i. true) ≡ replicate w ones
-ones-words w = sym (means-words (words-replicate w ones (lit< tt)) (λ i lt. member-ones w i (omega arith)))
-
--- no slot
-pub zero-words : (w : ℕ) → wordsOf w (λ i. false) ≡ replicate w 0
-zero-words w = sym (means-words (words-replicate w 0 (lit< tt)) (λ i lt. member-zero w i))

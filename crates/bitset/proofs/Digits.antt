@@ -131,7 +131,9 @@ bit-pow i j = go (ℕ-discrete i j)
     go (no ne) = ap (λ (x : ℕ). eqb x 1) (other (decLt i j) ne) ∙ sym (ne-eqb i j ne)
 
 -- ---- the bits tell the number
-digit-next : (x j : ℕ) → digit x (suc j) ≡ digit (x / 2) j
+
+-- a digit is one of half of the number
+pub digit-next : (x j : ℕ) → digit x (suc j) ≡ digit (x / 2) j
 unfolding digit
 digit-next x j = ap (λ (z : ℕ). z % 2) (let e : suc j ≡ 1 + j = omega arith in rw e (sym (shr-shr x 1 j)))
 
