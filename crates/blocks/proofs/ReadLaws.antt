@@ -3,7 +3,6 @@ use mathlib.Core.Path.{_≡_, refl, sym, ap, subst, _∙_}
 use mathlib.Core.List.{List}
 use mathlib.Core.Option.{Option, none, some}
 use Prim.Native.Nat.{ℕ, _*_, _≤_, _<_}
-use native.Mathlib.Decide.{decLt}
 use native.Mathlib.Omega.{arith}
 use lib.ListN.{length}
 use Rattle.dataflow.specs.Code as flow
@@ -17,8 +16,8 @@ use Rattle.instructions.specs.Placed.{Stands, placedAt}
 use Rattle.instructions.specs.Sets.{AllBelow}
 use Rattle.instructions.specs.Sound.{Sound, codeOffset, codeInstruction}
 use Rattle.instructions.proofs.Below.{below-up}
-use Rattle.script.specs.Script.{listOf, flowInstruction, flowCode}
-use Rattle.script.proofs.ScriptLaws.{read, code-at, code-past}
+use Rattle.script.specs.Script.{listOf, flowCode}
+use Rattle.script.proofs.ScriptLaws.{code-at, everywhere}
 use Rattle.blocks.proofs.OperandLaws.{targets-few}
 
 module _ (s : List ℕ) (x : Script) (ok : Sound s x) (i at : ℕ) (q : at ≡ codeOffset s x i) (l : i < x .count) where
@@ -74,26 +73,18 @@ module _ (s : List ℕ) (x : Script) (ok : Sound s x) (i at : ℕ) (q : at ≡ c
 -- ---- each instruction of the code, and what stands past its end
 
 module _ (s : List ℕ) (x : Script) (ok : Sound s x) where
-  everywhere : (P : flow.Instruction → Type 0) → ((i : ℕ) → i < x .count → P (flowInstruction (read s x ok i))) → P flow.outside
-      → (i : ℕ) → P (flow.instructionAt (flowCode (partsOf s)) i)
-  everywhere P f g i = go (decLt i (x .count))
-    where
-      go : Dec (i < x .count) → P (flow.instructionAt (flowCode (partsOf s)) i)
-      go (yes l) = subst P (sym (code-at s x ok i l)) (f i l)
-      go (no l) = subst P (sym (code-past s x ok i (omega arith))) g
-
   -- at most two targets
   pub targets-everywhere : (i : ℕ) → length (flow.instructionAt (flowCode (partsOf s)) i .targets) ≤ 2
-  targets-everywhere = everywhere (λ v. length (v .targets) ≤ 2)
+  targets-everywhere = everywhere s x ok (λ v. length (v .targets) ≤ 2)
       (λ i l. let p = ok .readable i l .known in
       targets-few (codeInstruction s x i .pattern .kind) (valuesOf s (codeInstruction s x i)) (p .low) (p .high)) (omega arith)
 
   -- its slots fit the words
   module _ (w : ℕ) (h : x .slots ≤ 64 * w) where
     pub inputs-everywhere : (i : ℕ) → AllBelow (64 * w) (flow.instructionAt (flowCode (partsOf s)) i .inputs)
-    inputs-everywhere = everywhere (λ v. AllBelow (64 * w) (v .inputs))
+    inputs-everywhere = everywhere s x ok (λ v. AllBelow (64 * w) (v .inputs))
         (λ i l. inputs-at s x ok i (codeOffset s x i) refl l (placedAt s (codeOffset s x i)) refl w h) tt
 
     pub outputs-everywhere : (i : ℕ) → AllBelow (64 * w) (flow.instructionAt (flowCode (partsOf s)) i .outputs)
-    outputs-everywhere = everywhere (λ v. AllBelow (64 * w) (v .outputs))
+    outputs-everywhere = everywhere s x ok (λ v. AllBelow (64 * w) (v .outputs))
         (λ i l. output-at s x ok i (codeOffset s x i) refl l (placedAt s (codeOffset s x i)) refl w h) tt

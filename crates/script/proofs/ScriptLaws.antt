@@ -7,13 +7,12 @@ use mathlib.Core.Option.{Option, none, some}
 use Prim.Native.Nat.{ℕ, suc, _+_, _-_, _≤_, _<_}
 use native.Mathlib.Decide.{decLt}
 use native.Mathlib.Omega.{arith}
-use lib.Dec.{T, eqb}
+use lib.Dec.{T}
 use lib.ListN.{length, getD, replicate, length-map, List·getD-eq-default}
-use borrow.Author.Tests.{eqb-true}
 use Rattle.dataflow.specs.Lists.{elem}
 use Rattle.dataflow.specs.Code as flow
 use Rattle.dataflow.specs.Checked.{Checked}
-use Rattle.dataflow.proofs.Lists.{map-at}
+use Rattle.dataflow.proofs.Lists.{elem-mem, map-at}
 use Rattle.operands.specs.Kinds.{endsBlock}
 use Rattle.operands.specs.Places.{Place, gathered}
 use Rattle.operands.specs.Variants.{variants, jumpTargets}
@@ -30,14 +29,6 @@ use Rattle.script.specs.Script.{listOf, flowInstruction, flowCode, param
 -- ---- lists
 
 -- what stands in a list of numbers below n is below n
-pub elem-below : (n x : ℕ) (l : List ℕ) → AllBelow n l → elem x l ≡ true → x < n
-elem-below n x [] b e = absurd (false≢true e)
-elem-below n x (y ∷ l) b e = go (eqb x y) refl e (elem-below n x l (b .1))
-  where
-    go : (t : Bool) → eqb x y ≡ t → (t || elem x l) ≡ true → (elem x l ≡ true → x < n) → x < n
-    go true q e f = let z = eqb-true x y q in omega (arith, b .0)
-    go false q e f = f e
-
 mem-below : (n x : ℕ) (l : List ℕ) → AllBelow n l → List·Memᴰ x l → x < n
 mem-below n x [] b m = absurd (List·Memᴰ·not-nil m)
 mem-below n x (y ∷ l) b m = go (List·Memᴰ·cases-cons m) (mem-below n x l (b .1))
@@ -45,6 +36,10 @@ mem-below n x (y ∷ l) b m = go (List·Memᴰ·cases-cons m) (mem-below n x l (
     go : (x ≡ y) ⊎ List·Memᴰ x l → (List·Memᴰ x l → x < n) → x < n
     go (inl e) f = omega (arith, b .0)
     go (inr q) f = f q
+
+-- as a test
+elem-below : (n x : ℕ) (l : List ℕ) → AllBelow n l → elem x l ≡ true → x < n
+elem-below n x l b e = mem-below n x l b (elem-mem x l e)
 
 -- ---- the code of a sheet that passed
 
@@ -73,7 +68,7 @@ module _ (s : List ℕ) (x : Script) (h : Sound s x) where
   code-past k l = List·getD-eq-default (flowCode (partsOf s)) flow.outside (omega (arith, code-length))
 
   -- a property of every instruction, inside the code and past its end
-  everywhere : (P : flow.Instruction → Type 0) → ((k : ℕ) → k < x .count → P (flowInstruction (read k))) → P flow.outside
+  pub everywhere : (P : flow.Instruction → Type 0) → ((k : ℕ) → k < x .count → P (flowInstruction (read k))) → P flow.outside
       → (k : ℕ) → P (flow.instructionAt (flowCode (partsOf s)) k)
   everywhere P f g k = go (decLt k (x .count))
     where
