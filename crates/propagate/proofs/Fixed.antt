@@ -74,10 +74,6 @@ rows-set d y t c x lt fits =
 pub record Fixed (d : Direction) (y : Layout) (m₀ m : Mem) : Type 0 where
   pub others : (k : ℕ) → (k ≡ ringCell → ⊥) → (k ≡ queuedCell → ⊥) → (k ≡ runningRow d y → ⊥) → cell m k ≡ cell m₀ k
 
--- the running row is none of the cells before it
-pub not-running : (d : Direction) (y : Layout) (k : ℕ) → k < 18 + 4 * y .blocks → k ≡ runningRow d y → ⊥
-not-running d y k lt e = omega (arith, running-at d y .0)
-
 module _ {d : Direction} {y : Layout} {m₀ : Mem} where
   -- nothing is stored
   pub fixed-none : Fixed d y m₀ m₀
@@ -94,9 +90,9 @@ module _ {d : Direction} {y : Layout} {m₀ : Mem} where
     pub fixed-running : (ws : List ℕ) → Fixed d y m₀ (storeCell m (runningRow d y) ws)
     fixed-running ws = record { others = λ k a b c. cell-store-other m (runningRow d y) ws k c ∙ f .others k a b c }
 
-    -- a cell that is not the ring's and not the marks'
-    fixed-cell : (k : ℕ) → k < 18 → (k ≡ ringCell → ⊥) → (k ≡ queuedCell → ⊥) → cell m k ≡ cell m₀ k
-    fixed-cell k lt a b = f .others k a b (not-running d y k (omega arith))
+    -- a cell before the running row that is not the ring's and not the marks'
+    fixed-cell : (k : ℕ) → k < 18 + 4 * y .blocks → (k ≡ ringCell → ⊥) → (k ≡ queuedCell → ⊥) → cell m k ≡ cell m₀ k
+    fixed-cell k lt a b = f .others k a b (λ e. omega (arith, running-at d y .0))
 
     -- who is reachable
     pub fixed-reachable : (i : ℕ) → word m reachableCell i ≡ word m₀ reachableCell i
@@ -138,9 +134,8 @@ module _ {d : Direction} {y : Layout} {m₀ m : Mem} (f : Fixed d y m₀ m) wher
   -- the transfer of a block
   fixed-transferred : (b : ℕ) → b < y .blocks → (x : List ℕ) → transferred d m b x ≡ transferred d m₀ b x
   fixed-transferred b lt x =
-      transferred-kept d m₀ m b x
-      (f .others (definesRow b) (λ r. omega arith) (λ r. omega arith) (not-running d y (definesRow b) (omega arith)))
-      (f .others (usesRow b) (λ r. omega arith) (λ r. omega arith) (not-running d y (usesRow b) (omega arith)))
+      transferred-kept d m₀ m b x (fixed-cell f (definesRow b) (omega arith) (λ r. omega arith) (λ r. omega arith))
+      (fixed-cell f (usesRow b) (omega arith) (λ r. omega arith) (λ r. omega arith))
 
   module _ (t : Mem) where
     -- a row with what block p keeps, and with what each of a list keeps

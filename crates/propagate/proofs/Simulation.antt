@@ -22,11 +22,12 @@ use Rattle.solver.specs.declared.direction.Direction.{Direction}
 use Rattle.solver.specs.declared.ring.Ring.{Ring}
 use Rattle.solver.specs.Transfer.{runningRow, keptRow}
 use Rattle.solver.specs.Run.{At, atOf, wrap, popped, pushed, offered, firstIn}
+use Rattle.solver.proofs.TransferLaws.{row-other}
 use Rattle.solver.proofs.RingLaws.{wrap-lt, pushed-marks, pushed-ring}
 use Rattle.propagate.specs.Rounds.{rowsOf, rowSolver}
 use Rattle.propagate.proofs.RingWords.{ringWords, ring-push, ring-pop, marks-at}
 use Rattle.propagate.proofs.RingWords.{trues, trues-few, trues-more, trues-less, below-append}
-use Rattle.propagate.proofs.Fixed.{Fixed, fixed-ring, fixed-queued, fixed-running, fixed-reachable, rows-set, not-running}
+use Rattle.propagate.proofs.Fixed.{Fixed, fixed-ring, fixed-queued, fixed-running, fixed-reachable, rows-set}
 
 -- The words of s, which were m₀ and t₀ at the beginning, hold the rows and the ring of a worklist state.
 pub record Simulates (d : Direction) (y : Layout) (m₀ t₀ : Mem) (s : At) (rows : List (List ℕ)) (r : worklist.Ring) : Type 0 where
@@ -194,19 +195,16 @@ module _ {d : Direction} {y : Layout} {m₀ t₀ : Mem} where
     fixed = fixed-running (h .fixed) x;
     other-sets = h .other-sets;
     cells = length-set m (runningRow d y) x ∙ h .cells;
-    ring-long = ap length (kept ringCell (omega arith)) ∙ h .ring-long;
+    ring-long = ap length (row-other d y m x ringCell (omega arith)) ∙ h .ring-long;
     sets-long = h .sets-long;
     table = h .table;
-    queue = h .queue ∙ ap (λ (c : List ℕ). ringWords y c (g .head) (g .count)) (sym (kept ringCell (omega arith)));
-    marks = h .marks ∙ ap (map marked) (sym (kept queuedCell (omega arith)));
+    queue = h .queue ∙ ap (λ (c : List ℕ). ringWords y c (g .head) (g .count)) (sym (row-other d y m x ringCell (omega arith)));
+    marks = h .marks ∙ ap (map marked) (sym (row-other d y m x queuedCell (omega arith)));
     head = h .head;
     room = h .room;
     marks-long = h .marks-long;
     below = h .below;
   }
-    where
-      kept : (k : ℕ) → k < 18 → cell (storeCell m (runningRow d y) x) k ≡ cell m k
-      kept k lt = cell-store-other m (runningRow d y) x k (not-running d y k (omega arith))
 
   -- a row is stored among those that the round keeps
   pub simulates-stored : (m t : Mem) (g : Ring) (c : ℕ) (x : List ℕ) {rows : List (List ℕ)} {r : worklist.Ring} → c < y .blocks
