@@ -4,13 +4,13 @@ use mathlib.Core.List.{List, [], _∷_, _++_, append-assoc, append-nil}
 use Prim.Native.Nat.{ℕ, _+_, _^_, _≤_, _<_}
 use lib.ListN.{length, take, getD}
 use Rattle.io.specs.Digits.{digits, Fewest}
-use Rattle.listing.specs.Lines.{decimal, spaced, newline, acceptLine, blockLine, awaitLine, refuseLine, slotsAt}
+use Rattle.listing.specs.Lines.{decimal, spaced, newline, acceptLine, blockLine, awaitLine, slotsAt}
 use Rattle.listing.specs.Text.{Puts, Rendered, Held, AwaitRendered}
 use Rattle.listing.proofs.DigitLaws.{length-decimal, fewest-decimal}
 use Rattle.listing.proofs.TextLaws.{puts-then, rendered}
 
 -- the same bytes, written otherwise
-respelled : {l m xs ys : List ℕ} {at r : ℕ} → xs ≡ ys → Puts l m at xs r → Puts l m at ys r
+pub respelled : {l m xs ys : List ℕ} {at r : ℕ} → xs ≡ ys → Puts l m at xs r → Puts l m at ys r
 respelled {l} {m} {at} {r} e p = subst (λ (t : List ℕ). Puts l m at t r) e p
 
 -- ---- numbers
@@ -74,23 +74,10 @@ block-rendered index start end reachable p q s t u =
     (puts-more word (index ∷ start ∷ []) (end ∷ []) (puts-more word (index ∷ []) (start ∷ []) p q) s) t)
     u
 
-pub refuse-rendered : {l₀ l₁ l₂ l₃ : List ℕ} {a b r : ℕ} (number id : ℕ)
-    → Puts l₀ l₁ 0 ((114 ∷ 101 ∷ 102 ∷ 117 ∷ 115 ∷ 101 ∷ []) ++ spaced (number ∷ [])) a
-    → Puts l₁ l₂ a (spaced (id ∷ [])) b
-    → Puts l₂ l₃ b newline r
-    → Rendered l₀ l₃ (refuseLine number id) r
-refuse-rendered number id p q s =
-    let word : List ℕ = 114 ∷ 101 ∷ 102 ∷ 117 ∷ 115 ∷ 101 ∷ [] in
-    line-ended word (number ∷ id ∷ []) (puts-more word (number ∷ []) (id ∷ []) p q) s
-
-pub await-rendered : {l₀ l₁ l₂ l₃ : List ℕ} {a b r : ℕ} (instruction : ℕ) (slots : List ℕ)
-    → Puts l₀ l₁ 0 ((97 ∷ 119 ∷ 97 ∷ 105 ∷ 116 ∷ []) ++ spaced (instruction ∷ [])) a
-    → Puts l₁ l₂ a (spaced slots) b
-    → Puts l₂ l₃ b newline r
-    → Rendered l₀ l₃ (awaitLine instruction slots) r
-await-rendered instruction slots p q s =
-    let word : List ℕ = 97 ∷ 119 ∷ 97 ∷ 105 ∷ 116 ∷ [] in
-    line-ended word (instruction ∷ slots) (puts-more word (instruction ∷ []) slots p q) s
+-- "refuse" and "await": a word, a number and further numbers
+pub numbers-rendered : {l₀ l₁ l₂ l₃ : List ℕ} {a b r : ℕ} (word : List ℕ) (n : ℕ) (ns : List ℕ) → Puts l₀ l₁ 0 (word ++ spaced (n ∷ [])) a
+    → Puts l₁ l₂ a (spaced ns) b → Puts l₂ l₃ b newline r → Rendered l₀ l₃ (word ++ (spaced (n ∷ ns) ++ newline)) r
+numbers-rendered word n ns p q s = line-ended word (n ∷ ns) (puts-more word (n ∷ []) ns p q) s
 
 -- an await whose words do not all stand in the sets, and one whose do
 pub await-missing : (v : List ℕ) (w at : ℕ) (l : List ℕ) → ¬ (Held v w at) → AwaitRendered v w at l l 0

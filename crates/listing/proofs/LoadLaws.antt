@@ -58,9 +58,6 @@ module _ {v : List ℕ} {w first awaits k at total : ℕ} (counted : Counted v w
   counted-all h = let e : k ≡ awaits = omega (arith, counted .below) in counted .is ∙ ap (λ (n : ℕ). sum (tabulate 0 n (countAt v w first))) e
 
 -- ---- the answer
-pub load-missing : (v : List ℕ) (w blocks awaits : ℕ) → ¬ (Answered v w blocks awaits) → Loaded v w blocks awaits 0
-load-missing v w blocks awaits n = record { there = λ h. absurd (n h); missing = λ _. refl }
-
 pub load-there : {v : List ℕ} {w blocks awaits r : ℕ} → Answered v w blocks awaits → r ≡ loadOf v w blocks awaits → Loaded v w blocks awaits r
 load-there h e = record { there = λ _. e; missing = λ n. absurd (n h) }
 

@@ -1,11 +1,13 @@
 -- `listing::count_slots` meets its contract: after each turn the slots passed so far are counted. Assumes nothing.
-use mathlib.Core.Path.{_≡_, refl}
+use mathlib.Core.Path.{_≡_, refl, ap, _∙_}
+use mathlib.Core.List.{[], _∷_}
 use Prim.Native.Nat.{_*_, _-_, _≤_}
 use native.Mathlib.Omega.{arith}
 use denote.Ref.{now}
 use lib.ListN.{length, drop}
 use Rattle.bitset.specs.Sets.{member}
-use Rattle.listing.proofs.SlotLaws.{slotsBelow, short-count, count-more, count-all}
+use Rattle.dataflow.proofs.Lists.{keep-few}
+use Rattle.listing.proofs.SlotLaws.{slotsBelow, slots-all, count-more}
 use borrow.Author.Needs.{needs}
 use Rattle.listing.proofs.count_slots.Statement.{statement}
 use Rattle.listing.proofs.count_slots.Tie as tie
@@ -29,7 +31,7 @@ count-slot-requires c κs = search needs
 add-count : tie.Need-add-count Inv-loop μ-loop
 add-count c =
     let args = c .before .before .before .before .args in
-    omega (arith, c .count-slot .ensures, short-count (member (drop (args .base) (now (args .sets)))) (c .before .before .loop .slot))
+    omega (arith, c .count-slot .ensures, keep-few (member (drop (args .base) (now (args .sets)))) (c .before .before .loop .slot ∷ []))
 
 add-slot : tie.Need-add-slot Inv-loop μ-loop
 add-slot c = search needs
@@ -43,7 +45,7 @@ loop-again c =
     let loop = c .before .before .loop in
     let one = c .count-slot in (
       omega arith,
-      omega (arith, one .ensures, short-count (member (drop (args .base) (now (args .sets)))) (loop .slot)),
+      omega (arith, one .ensures, keep-few (member (drop (args .base) (now (args .sets)))) (loop .slot ∷ [])),
       count-more (now (args .sets)) (args .w) (args .base) (loop .slot) (loop .count) (one .result) (omega arith) (loop .inv .2) (one .ensures),
     )
 
@@ -51,7 +53,7 @@ returns : tie.Need-returns Inv-loop μ-loop
 returns c =
     let args = c .before .before .before .args in
     let loop = c .before .loop in
-    count-all (now (args .sets)) (args .w) (args .base) (loop .slot) (loop .count) (omega arith) (omega arith) (loop .inv .2)
+    loop .inv .2 ∙ ap length (slots-all (now (args .sets)) (args .w) (args .base) (loop .slot) (omega arith) (omega arith))
 
 pub count-slots-spec : {M : Type 1} → statement M
 count-slots-spec =

@@ -1,10 +1,11 @@
 -- `listing::put_await` meets its contract: its parts, one after the other, are the line. Assumes nothing.
+use mathlib.Core.List.{[], _∷_}
 use denote.Ref.{now}
 use Prim.Native.Nat.{_+_}
 use native.Mathlib.Omega.{arith}
 use lib.ListN.{getD}
 use Rattle.listing.specs.Lines.{slotsAt}
-use Rattle.listing.proofs.LineLaws.{await-rendered, length-number}
+use Rattle.listing.proofs.LineLaws.{numbers-rendered, length-number}
 use Rattle.listing.proofs.SlotLaws.{slots-short}
 use borrow.Author.Needs.{needs}
 use Rattle.listing.proofs.put_await.Statement.{statement}
@@ -49,7 +50,7 @@ returns c =
     let put-field = c .before .before .before .before .before .before .before .before .before .before .put-field in
     let put-slots = c .before .before .before .before .before .before .put-slots in
     let put = c .before .before .put in
-    await-rendered (getD (now (args .sets)) (args .at) 0) (slotsAt (now (args .sets)) (args .w) (args .at + 1)) (put-field .ensures) (put-slots .ensures) (put .ensures)
+    numbers-rendered (97 ∷ 119 ∷ 97 ∷ 105 ∷ 116 ∷ []) (getD (now (args .sets)) (args .at) 0) (slotsAt (now (args .sets)) (args .w) (args .at + 1)) (put-field .ensures) (put-slots .ensures) (put .ensures)
 
 pub put-await-spec : {M : Type 1} → statement M
 put-await-spec =

@@ -1,9 +1,7 @@
 -- `listing::put_slot` meets its contract. Assumes nothing.
 use mathlib.Core.Path.{sym, _∙_}
 use denote.Ref.{now}
-use lib.ListN.{drop}
-use Rattle.bitset.specs.Sets.{member}
-use Rattle.listing.proofs.SlotLaws.{kept-text, lost-text}
+use Rattle.listing.proofs.TextLaws.{puts-none}
 use borrow.Author.Needs.{needs}
 use Rattle.listing.proofs.put_slot.Statement.{statement}
 use Rattle.listing.proofs.put_slot.Tie as tie
@@ -19,17 +17,14 @@ same-length c = search needs
 
 returns : tie.Need-returns
 returns c =
-    let args = c .before .before .before .before .before .before .before .before .args in
     let contains = c .before .before .before .before .before .contains in
     let if1 = c .before .before .before .before .if1 in
-    let put-next = c .before .before .put-next in
-    kept-text (member (drop (args .base) (now (args .sets)))) (args .slot) (sym (contains .ensures) ∙ if1 .taken) (put-next .ensures)
+    rw (sym (contains .ensures) ∙ if1 .taken) (c .before .before .put-next .ensures)
 
 returns-2 : tie.Need-returns-2
 returns-2 c =
     let args = c .before .before .before .before .args in
-    let contains = c .before .contains in
-    lost-text (now (args .text)) (args .at) (member (drop (args .base) (now (args .sets)))) (args .slot) (sym (contains .ensures) ∙ c .if1 .left)
+    rw (sym (c .before .contains .ensures) ∙ c .if1 .left) (puts-none (now (args .text)) (args .at))
 
 pub put-slot-spec : {M : Type 1} → statement M
 put-slot-spec =

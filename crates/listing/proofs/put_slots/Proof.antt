@@ -1,5 +1,5 @@
 -- `listing::put_slots` meets its contract: after each turn the slots passed so far are put. Assumes nothing.
-use mathlib.Core.Path.{_≡_, _∙_, refl}
+use mathlib.Core.Path.{_≡_, _∙_, refl, ap}
 use Prim.Native.Nat.{_+_, _*_, _-_, _≤_}
 use native.Mathlib.Omega.{arith}
 use denote.Ref.{now}
@@ -7,7 +7,9 @@ use lib.ListN.{length, drop}
 use Rattle.bitset.specs.Sets.{member}
 use Rattle.listing.specs.Lines.{spaced}
 use Rattle.listing.specs.Text.{Puts}
-use Rattle.listing.proofs.SlotLaws.{slotsBelow, short-text, text-none, text-more, text-all}
+use Rattle.listing.proofs.TextLaws.{puts-none}
+use Rattle.listing.proofs.LineLaws.{respelled}
+use Rattle.listing.proofs.SlotLaws.{slotsBelow, slots-all, short-text, text-more}
 use borrow.Author.Needs.{needs}
 use Rattle.listing.proofs.put_slots.Statement.{statement}
 use Rattle.listing.proofs.put_slots.Tie as tie
@@ -21,7 +23,7 @@ abbrev μ-loop : tie.MeasureT-loop
 loop-holds : tie.Need-loop-holds Inv-loop μ-loop
 loop-holds c =
     let args = c .before .before .args in
-    (omega arith, omega arith, refl, text-none (now (args .text)) (now (args .sets)) (args .w) (args .base) (args .from))
+    (omega arith, omega arith, refl, puts-none (now (args .text)) (args .from))
 
 mul-loop : tie.Need-mul-loop Inv-loop μ-loop
 mul-loop c = search needs
@@ -53,7 +55,7 @@ returns : tie.Need-returns Inv-loop μ-loop
 returns c =
     let args = c .before .before .before .before .args in
     let loop = c .before .loop in
-    text-all (now (args .sets)) (args .w) (args .base) (loop .slot) (omega arith) (omega arith) (loop .inv .3)
+    respelled (ap spaced (slots-all (now (args .sets)) (args .w) (args .base) (loop .slot) (omega arith) (omega arith))) (loop .inv .3)
 
 pub put-slots-spec : {M : Type 1} → statement M
 put-slots-spec =

@@ -1,6 +1,7 @@
 -- `listing::refuse_line` meets its contract: its parts, one after the other, are the line. Assumes nothing.
+use mathlib.Core.List.{[], _∷_}
 use native.Mathlib.Omega.{arith}
-use Rattle.listing.proofs.LineLaws.{refuse-rendered, length-number}
+use Rattle.listing.proofs.LineLaws.{numbers-rendered, length-number}
 use borrow.Author.Needs.{needs}
 use Rattle.listing.proofs.refuse_line.Statement.{statement}
 use Rattle.listing.proofs.refuse_line.Tie as tie
@@ -29,7 +30,7 @@ returns c =
     let put-field = c .before .before .before .before .before .before .before .before .before .before .put-field in
     let put-next = c .before .before .before .before .before .before .put-next in
     let put = c .before .before .put in
-    refuse-rendered (args .number) (args .id) (put-field .ensures) (put-next .ensures) (put .ensures)
+    numbers-rendered (114 ∷ 101 ∷ 102 ∷ 117 ∷ 115 ∷ 101 ∷ []) (args .number) (args .id ∷ []) (put-field .ensures) (put-next .ensures) (put .ensures)
 
 pub refuse-line-spec : {M : Type 1} → statement M
 refuse-line-spec =
