@@ -23,7 +23,8 @@ use Rattle.solver.specs.declared.direction.Direction.{Direction}
 use Rattle.solver.specs.declared.direction.Direction.the-variants.{Initialization, Liveness}
 use Rattle.solver.specs.declared.direction.Side.{Side}
 use Rattle.solver.specs.declared.direction.Side.the-variants.{Successors, Predecessors}
-use Rattle.solver.specs.Neighbors.{countOf, firstOf, edgesFrom, neighborsFrom, neighbors, Connected}
+use Rattle.solver.specs.Neighbors.{countOf, neighbors, Connected}
+use Rattle.solver.proofs.NeighborLaws.{neighbors-none}
 use Rattle.propagate.proofs.Graphs as graphs
 use Rattle.edges.specs.Flow.{Flows}
 use Rattle.edges.proofs.EdgeLaws.{marked-flag, flag-few}
@@ -43,11 +44,6 @@ edgesOf code Predecessors = predecessors code
 empty : (l : List ℕ) → ((c : ℕ) → List·Memᴰ c l → ⊥) → l ≡ []
 empty [] h = refl
 empty (c ∷ l) h = absurd (h c (List·Memᴰ·head refl))
-
--- no edges counted, no neighbors
-neighbors-none : (side : Side) (m : Mem) (b : ℕ) → countOf side m b ≡ 0 → neighbors side m b ≡ []
-unfolding neighborsFrom edgesFrom
-neighbors-none side m b e = ap (λ (n : ℕ). neighborsFrom side m n (firstOf side m b)) e
 
 module _ {code : List Instruction} {parameter : ℕ → Bool} {y : Layout} {m : Mem} (s : Scripted code parameter (y .words))
     (f : Flows code parameter y m) where

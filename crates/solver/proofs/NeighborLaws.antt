@@ -105,6 +105,11 @@ module _ {m m′ : Mem} (s : SameEdges m m′) where
     few = λ side b h. rw (count-kept side b) (c .few side b h);
   }
 
+-- no edges counted, no neighbors
+pub neighbors-none : (side : Side) (m : Mem) (b : ℕ) → countOf side m b ≡ 0 → neighbors side m b ≡ []
+unfolding neighborsFrom edgesFrom
+neighbors-none side m b e = ap (λ (n : ℕ). neighborsFrom side m n (firstOf side m b)) e
+
 -- ---- one edge after the other: k of n are passed, and e is the next
 module _ (side : Side) (m : Mem) (n k e : ℕ) where
   -- e comes first, then those behind it

@@ -16,9 +16,9 @@ use Rattle.memory.proofs.CellLaws.{cell-store-same, cell-store-other, word-cell
 use Rattle.solver.specs.declared.direction.Direction.{Direction}
 use Rattle.solver.specs.declared.direction.Direction.the-variants.{Initialization, Liveness}
 use Rattle.solver.specs.declared.direction.Side.{Side}
-use Rattle.solver.specs.Neighbors.{readsOf, countOf, firstOf, nextOf, endOf, neighborsFrom, neighbors, Behind, Connected}
+use Rattle.solver.specs.Neighbors.{readsOf, countOf, firstOf, nextOf, endOf, neighborsFrom, Behind, Connected}
 use Rattle.solver.specs.Transfer.{runningRow, keptRow, entryOf, gatherOne, gatherAll, gathered, transferred, computed}
-use Rattle.solver.proofs.NeighborLaws.{SameEdges, same-stored, end-kept, next-kept, ends-kept, behind-kept}
+use Rattle.solver.proofs.NeighborLaws.{SameEdges, same-stored, end-kept, next-kept, ends-kept, behind-kept, neighbors-none}
 use Rattle.solver.proofs.NeighborLaws.{ends-more, ends-over, Walk, walk-none, walk-edge, walk-end, walk-more, walk-behind, behind-first}
 
 -- ---- where the rows are
@@ -185,10 +185,9 @@ module _ (d : Direction) (y : Layout) (m t : Mem) (b : ℕ) (lt : runningRow d y
   pub gathers-none : {n : ℕ} {m₁ : Mem} → n ≡ countOf (readsOf d) m b → n ≡ 0 → m₁ ≡ storeCell m (runningRow d y) (entryOf d y m b)
       → m₁ ≡ storeCell m (runningRow d y) (gathered d y m t b)
   unfolding gathered gatherAll
-  gathers-none {n} en z e₁ =
-      let none : neighbors (readsOf d) m b ≡ [] =
-      ap (λ (c : ℕ). neighborsFrom (readsOf d) m c (firstOf (readsOf d) m b)) (sym en ∙ z) ∙ ends-over (readsOf d) m 0 0 (firstOf (readsOf d) m b) (omega arith) in
-      e₁ ∙ ap (λ (l : List ℕ). storeCell m (runningRow d y) (gatherAll d m t l (entryOf d y m b))) (sym none)
+  gathers-none en z e₁ =
+      e₁ ∙ ap (λ (l : List ℕ). storeCell m (runningRow d y) (gatherAll d m t l (entryOf d y m b)))
+      (sym (neighbors-none (readsOf d) m b (sym en ∙ z)))
 
   module _ {n e : ℕ} (en : n ≡ countOf (readsOf d) m b) (ne : n ≡ 0 → ⊥) (ee : e ≡ firstOf (readsOf d) m b) where
     -- the first neighbor and those behind it are all
