@@ -1,13 +1,10 @@
+-- `flowlist::show_blocks` is safe and ends. The text keeps its length. Assumes nothing.
 use mathlib.Core.Path.{_≡_}
 use Prim.Native.Nat.{_-_, _≤_}
 use lib.ListN.{length}
 use borrow.Author.Needs.{needs}
 use Rattle.flowlist.proofs.show_blocks.Statement.{statement}
 use Rattle.flowlist.proofs.show_blocks.Tie as tie
-use Rattle.flowlist.proofs.show_blocks.Reads as reads
-use Rattle.flowlist.proofs.show_blocks.Lts as lts
-use Rattle.flowlist.proofs.show.Reads as show-reads
-use Rattle.listing.proofs.block_line.Reads as block-line-reads
 
 abbrev Inv-loop : tie.InvT-loop
 Inv-loop text₀ blocks b i₀ text i = (i ≤ b) × (length text ≡ length text₀)
@@ -15,95 +12,72 @@ Inv-loop text₀ blocks b i₀ text i = (i ≤ b) × (length text ≡ length tex
 abbrev μ-loop : tie.MeasureT-loop
 μ-loop text₀ blocks b i₀ text i = b - i
 
--- src/main.rt:61:5
 loop-holds : tie.Need-loop-holds Inv-loop μ-loop
 loop-holds c = search needs
 
--- src/main.rt:63:13
 same-length : tie.Need-same-length Inv-loop μ-loop
 same-length c = search needs
 
--- src/main.rt:63:13
 returns : tie.Need-returns Inv-loop μ-loop
 returns c = search needs
 
--- src/main.rt:68:20
 mul-block-line : tie.Need-mul-block-line Inv-loop μ-loop
 mul-block-line c = search needs
 
--- src/main.rt:68:13
 mul-block-line-2 : tie.Need-mul-block-line-2 Inv-loop μ-loop
 mul-block-line-2 c = search needs
 
--- src/main.rt:68:13
 shared-slice-read-block-line : tie.Need-shared-slice-read-block-line Inv-loop μ-loop
 shared-slice-read-block-line c = search needs
 
--- src/main.rt:69:20
 mul-block-line-3 : tie.Need-mul-block-line-3 Inv-loop μ-loop
 mul-block-line-3 c = search needs
 
--- src/main.rt:69:20
 add-block-line : tie.Need-add-block-line Inv-loop μ-loop
 add-block-line c = search needs
 
--- src/main.rt:69:13
 mul-block-line-4 : tie.Need-mul-block-line-4 Inv-loop μ-loop
 mul-block-line-4 c = search needs
 
--- src/main.rt:69:13
 shared-slice-read-block-line-2 : tie.Need-shared-slice-read-block-line-2 Inv-loop μ-loop
 shared-slice-read-block-line-2 c = search needs
 
--- src/main.rt:70:20
 mul-block-line-5 : tie.Need-mul-block-line-5 Inv-loop μ-loop
 mul-block-line-5 c = search needs
 
--- src/main.rt:70:20
 add-block-line-2 : tie.Need-add-block-line-2 Inv-loop μ-loop
 add-block-line-2 c = search needs
 
--- src/main.rt:70:13
 mul-block-line-6 : tie.Need-mul-block-line-6 Inv-loop μ-loop
 mul-block-line-6 c = search needs
 
--- src/main.rt:70:13
 shared-slice-read-block-line-3 : tie.Need-shared-slice-read-block-line-3 Inv-loop μ-loop
 shared-slice-read-block-line-3 c = search needs
 
--- src/main.rt:65:13
 block-line-requires : tie.Need-block-line-requires Inv-loop μ-loop
 block-line-requires c κs = search needs
 
--- src/main.rt:72:13
 show-requires : tie.Need-show-requires Inv-loop μ-loop
 show-requires c κs = search needs
 
--- src/main.rt:73:13
 same-length-2 : tie.Need-same-length-2 Inv-loop μ-loop
 same-length-2 c = search needs
 
--- src/main.rt:73:13
 returns-2 : tie.Need-returns-2 Inv-loop μ-loop
 returns-2 c = search needs
 
--- src/main.rt:75:9
 add-i : tie.Need-add-i Inv-loop μ-loop
 add-i c = search needs
 
--- src/main.rt:61:5
 loop-less : tie.Need-loop-less Inv-loop μ-loop
 loop-less c = search needs
 
--- src/main.rt:61:5
 loop-again : tie.Need-loop-again Inv-loop μ-loop
 loop-again c = search needs
 
--- src/main.rt:59:1
 same-length-3 : tie.Need-same-length-3 Inv-loop μ-loop
 same-length-3 c = search needs
 
--- src/main.rt:59:1
 returns-3 : tie.Need-returns-3 Inv-loop μ-loop
 returns-3 c = search needs
 
