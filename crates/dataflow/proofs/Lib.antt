@@ -19,6 +19,7 @@ pub mod Bits
 pub mod Solution
 pub mod Visits
 pub mod FlowGraph
+pub mod Visited
 pub mod Search
 pub mod Reachability
 pub mod Predecessors
