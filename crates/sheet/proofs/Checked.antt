@@ -72,7 +72,17 @@ each-none fault s at (suc n) e zero h = neither (fault at) (firstOf fault s (end
 each-none fault s at (suc n) e (suc k) h =
     each-none fault s (endAt s at) n (neither (fault at) (firstOf fault s (endAt s at) n) e .1) k (omega arith)
 
--- the sizes and the end of a sheet that passed
+-- the end of a sheet that passed
+pub ends-well : (s : List ℕ) → endFault s ≡ none
+    → (instructionAt s (countIn s) ≡ length s) × (endsBlock (kindAt s (instructionAt s (countIn s - 1))) ≡ true)
+unfolding endFault
+ends-well s e =
+    let a = none-due (not (eqb (instructionAt s (countIn s)) (length s))) LeftOver
+    (due (not (endsBlock (kindAt s (instructionAt s (countIn s - 1))))) OpenEnd none) e in
+    let b = none-due (not (endsBlock (kindAt s (instructionAt s (countIn s - 1))))) OpenEnd none (a .1) in
+    (eqb-true _ _ (not-false _ (a .0)), not-false _ (b .0))
+
+-- its sizes and its end
 pub record Sized (s : List ℕ) : Type 0 where
   pub few-slots : slotsIn s ≤ 65536
   pub few-code : countIn s ≤ 65536
@@ -81,19 +91,17 @@ pub record Sized (s : List ℕ) : Type 0 where
   pub last-ends : endsBlock (kindAt s (instructionAt s (countIn s - 1))) ≡ true
 
 pub sized : (s : List ℕ) → Clean s → Sized s
-unfolding sizesFault endFault
+unfolding sizesFault
 sized s c =
     let a = none-due (ltb 65536 (slotsIn s) || ltb 65536 (countIn s)) TooMany (due (eqb (countIn s) 0) NoCode none) (c .sizes-ok) in
     let b = or-none (ltb 65536 (slotsIn s)) (ltb 65536 (countIn s)) (a .0) in
-    let d = none-due (not (eqb (instructionAt s (countIn s)) (length s))) LeftOver
-    (due (not (endsBlock (kindAt s (instructionAt s (countIn s - 1))))) OpenEnd none) (c .end-ok) in
-    let f = none-due (not (endsBlock (kindAt s (instructionAt s (countIn s - 1))))) OpenEnd none (d .1) in
+    let d = ends-well s (c .end-ok) in
     record {
       few-slots = ltb-false _ _ (b .0);
       few-code = ltb-false _ _ (b .1);
       code-there = some-code (slotsIn s) (countIn s) (c .sizes-ok);
-      ends = eqb-true _ _ (not-false _ (d .0));
-      last-ends = not-false _ (f .0);
+      ends = d .0;
+      last-ends = d .1;
     }
 
 -- a later record stands further on

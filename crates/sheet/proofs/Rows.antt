@@ -7,7 +7,7 @@ use mathlib.Core.List.{List, [], _∷_, _++_}
 use mathlib.Core.Option.{Option, none, some}
 use Prim.Native.Nat.{ℕ, zero, suc, _+_, _-_, _<_}
 use native.Mathlib.Omega.{arith}
-use borrow.Author.Tests.{not-false, eq-eqb, ne-eqb, eqb-true, eqb-false}
+use borrow.Author.Tests.{eq-eqb, ne-eqb, eqb-true, eqb-false}
 use lib.Dec.{eqb}
 use lib.ListN.{length, getD, take, drop}
 use Rattle.operands.specs.Kinds.{endsBlock}
@@ -32,7 +32,6 @@ use Rattle.format.specs.declared.refusal.Refusal.the-variants.{
 use Rattle.format.specs.Refusals.{numberOf, due, orElse}
 use Rattle.format.specs.Heads.{kindAt, endAt}
 use Rattle.records.specs.Records.{functionFault, parametersFault, slotFault, instructionFault}
-use Rattle.records.proofs.Passed.{none-due}
 use Rattle.sheet.specs.Decode.{
   countIn,
   Due,
@@ -72,7 +71,7 @@ use Rattle.sheet.specs.Rows.{
   OpenEndGiven,
   PassedGiven,
 }
-use Rattle.sheet.proofs.Checked.{neither}
+use Rattle.sheet.proofs.Checked.{neither, ends-well}
 
 -- a refusal is told by its number
 refusals : List Refusal
@@ -395,14 +394,8 @@ parts-given s = (λ e. forth (given (refusal s) e), back)
     forth : refusal s ≡ none → PassedGiven s
     forth e =
         let a = neither (firstBad s (dues s) 0) (endFault s) e in
-        let b = none-due (not (eqb (instructionAt s (countIn s)) (length s))) LeftOver
-        (due (not (endsBlock (kindAt s (instructionAt s (countIn s - 1))))) OpenEnd none) (a .1) in
-        let c = none-due (not (endsBlock (kindAt s (instructionAt s (countIn s - 1))))) OpenEnd none (b .1) in
-        record {
-          passed = all-pass s (dues s) 0 (a .0);
-          no-more = eqb-true _ _ (not-false _ (b .0));
-          closed-end = not-false _ (c .0);
-        }
+        let b = ends-well s (a .1) in
+        record { passed = all-pass s (dues s) 0 (a .0); no-more = b .0; closed-end = b .1 }
 
     back : PassedGiven s → decode s ≡ parts (partsOf s)
     back g =
