@@ -13,7 +13,8 @@ use Rattle.bitset.proofs.SetLaws.{length-inserted, member-inserted, member-zero
 use Rattle.dataflow.specs.Lists.{pick, elem}
 use Rattle.dataflow.specs.Blocks.{uses, defines}
 use Rattle.dataflow.specs.Code.{Instruction, instructionAt, program}
-use Rattle.instructions.specs.Sets.{AllBelow, insertedAll}
+use Rattle.bitset.specs.Below.{AllBelow}
+use Rattle.instructions.specs.Sets.{insertedAll}
 use Rattle.instructions.proofs.SetSteps.{length-all}
 use Rattle.blocks.specs.Rows.{usedIn, Transfer, transferOne, transferAll}
 

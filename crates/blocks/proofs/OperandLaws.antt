@@ -22,7 +22,7 @@ use Rattle.operands.specs.declared.instruction.SlotOperand.the-variants as slot
 use Rattle.operands.proofs.Table.{at}
 use Rattle.operands.proofs.InstructionLaws.{view-count}
 use Rattle.operands.proofs.PlaceLaws.{gathered-append}
-use Rattle.instructions.specs.Sets.{AllBelow}
+use Rattle.bitset.specs.Below.{AllBelow}
 use Rattle.script.specs.Script.{listOf}
 use Rattle.leaders.proofs.MarkLaws.{nth-there}
 

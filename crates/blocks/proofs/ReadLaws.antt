@@ -13,9 +13,9 @@ use Rattle.sheet.specs.declared.script.Script.{Script}
 use Rattle.sheet.specs.Decode.{partsOf}
 use Rattle.instructions.specs.declared.placed.Placed.{Placed}
 use Rattle.instructions.specs.Placed.{Stands, placedAt}
-use Rattle.instructions.specs.Sets.{AllBelow}
+use Rattle.bitset.specs.Below.{AllBelow}
 use Rattle.instructions.specs.Sound.{Sound, codeOffset, codeInstruction}
-use Rattle.instructions.proofs.Below.{below-up}
+use Rattle.bitset.proofs.Below.{below-up}
 use Rattle.script.specs.Script.{listOf, flowCode}
 use Rattle.script.proofs.ScriptLaws.{code-at, everywhere}
 use Rattle.blocks.proofs.OperandLaws.{targets-few}

@@ -15,7 +15,7 @@ ghost use Rattle.operands.specs.Instructions.{Readable, valuesOf};
 ghost use Rattle.memory.specs.Cells.{word, store};
 ghost use Rattle.memory.specs.Names.{blockOfCell, successorCell};
 ghost use Rattle.memory.specs.Scratch.{scratch, Room};
-ghost use Rattle.instructions.specs.Sets.{AllBelow};
+ghost use Rattle.bitset.specs.Below.{AllBelow};
 ghost use Rattle.blocks.specs.Words.{nextOf, countedEdges, linkEdges, putEdges};
 
 // `i` is the block's last instruction, and `end` is what follows it. The block of a target is looked up in the target's own word.

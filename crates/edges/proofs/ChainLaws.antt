@@ -21,7 +21,8 @@ use Rattle.memory.specs.declared.layout.Layout.{Layout}
 use Rattle.memory.proofs.CellLaws.{Sized, sized-store, word-store-other}
 use Rattle.memory.proofs.ScratchLaws.{word-put, place-blocks, place-edges}
 use Rattle.edges.specs.Edges.{Holds, Cleared}
-use Rattle.edges.specs.Predecessors.{chainFrom, edgesInto, AllBelow, Chained}
+use Rattle.bitset.specs.Below.{AllBelow}
+use Rattle.edges.specs.Predecessors.{chainFrom, edgesInto, Chained}
 use Rattle.edges.specs.Chains.{linkedIn, OnlyChains, AllFrom, Chains, predecessorsSince, ChainedSince}
 use Rattle.edges.proofs.EdgeLaws.{same-word, cell-kept, holds-kept}
 

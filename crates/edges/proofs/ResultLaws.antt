@@ -15,7 +15,8 @@ use Rattle.budget.specs.declared.FlowBudget.{FlowBudget}
 use Rattle.budget.specs.declared.Limits.{Limits}
 use Rattle.budget.specs.declared.Charged.{Charged}
 use Rattle.edges.specs.Edges.{Holds}
-use Rattle.edges.specs.Predecessors.{chainFrom, edgesInto, AllBelow, Chained, Linked}
+use Rattle.bitset.specs.Below.{AllBelow}
+use Rattle.edges.specs.Predecessors.{chainFrom, edgesInto, Chained, Linked}
 use Rattle.edges.specs.Reachability.{Reached}
 use Rattle.edges.proofs.EdgeLaws.{same-word}
 use Rattle.edges.proofs.ChainLaws.{only-holds}

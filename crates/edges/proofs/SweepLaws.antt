@@ -22,7 +22,7 @@ use Rattle.budget.proofs.BudgetLaws.{charged-none, ones-on, ones-over, ones-cro
 use Rattle.edges.specs.declared.reachability.Pushed.{Pushed}
 use Rattle.edges.specs.declared.reachability.Pushed.the-variants as pushed
 use Rattle.edges.specs.Edges.{Holds}
-use Rattle.edges.specs.Predecessors.{AllBelow}
+use Rattle.bitset.specs.Below.{AllBelow}
 use Rattle.edges.specs.Reachability.{sweptFrom, sweepCharges, Reached}
 use Rattle.edges.specs.Stack.{chargedOf, stackOf, Sweeps, Begun, OnlySearch, Entered, Advanced}
 use Rattle.edges.proofs.StackLaws.{search-holds}

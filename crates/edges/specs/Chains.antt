@@ -8,7 +8,8 @@ use Rattle.memory.specs.Cells.{Mem, cell, word, store}
 use Rattle.memory.specs.Names.{firstEdgeCell, nextEdgeCell, predecessorCountCell}
 use Rattle.memory.specs.declared.layout.Layout.{Layout}
 use Rattle.edges.specs.Edges.{Holds}
-use Rattle.edges.specs.Predecessors.{edgesInto, AllBelow}
+use Rattle.bitset.specs.Below.{AllBelow}
+use Rattle.edges.specs.Predecessors.{edgesInto}
 
 -- the words after an edge was put before the chain of the block that it leads to
 unfoldable pub linkedIn : Mem → ℕ → ℕ → Mem

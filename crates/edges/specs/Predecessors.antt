@@ -8,6 +8,7 @@ use Rattle.memory.specs.Cells.{Mem, cell, word}
 use Rattle.memory.specs.Names.{firstEdgeCell, nextEdgeCell, predecessorCountCell}
 use Rattle.memory.specs.declared.layout.Layout.{Layout}
 use Rattle.edges.specs.Edges.{Holds}
+use Rattle.bitset.specs.Below.{AllBelow}
 
 -- n edges of a chain, from edge e on
 abbrev pub chainFrom : Mem → ℕ → ℕ → List ℕ
@@ -21,11 +22,6 @@ edgesInto m b = chainFrom m (word m predecessorCountCell b) (word m firstEdgeCel
 -- flow.rs `graph`, the last loop, over blocks 0 to n: the predecessors of b, ascending, a repeat for each edge
 abbrev pub predecessorsOf : (ℕ → List ℕ) → ℕ → ℕ → List ℕ
 predecessorsOf next n b = predecessorsFrom b 0 (tabulate 0 n next)
-
--- each of the numbers is below n
-abbrev pub AllBelow : ℕ → List ℕ → Type 0
-AllBelow n [] = Unit {0}
-AllBelow n (e ∷ es) = (e < n) × AllBelow n es
 
 -- The words hold the predecessors of the graph: the chain of each block has its edges in order, each the number of an edge.
 pub record Chained (next : ℕ → List ℕ) (y : Layout) (m : Mem) : Type 0 where

@@ -16,7 +16,7 @@ use Rattle.budget.specs.Budget.{charged}
 use Rattle.edges.specs.declared.reachability.Pushed.{Pushed}
 use Rattle.edges.specs.declared.reachability.Pushed.the-variants as pushed
 use Rattle.edges.specs.Edges.{Holds}
-use Rattle.edges.specs.Predecessors.{AllBelow}
+use Rattle.bitset.specs.Below.{AllBelow}
 
 -- an answer's budget
 abbrev pub leftOf : Pushed → FlowBudget

@@ -29,7 +29,8 @@ use Rattle.memory.specs.Scratch.{scratchWidths, Row}
 use Rattle.memory.specs.declared.layout.Layout.{Layout}
 use Rattle.memory.proofs.CellLaws.{Sized}
 use Rattle.edges.specs.Edges.{marked}
-use Rattle.edges.specs.Predecessors.{AllBelow}
+use Rattle.bitset.specs.Below.{AllBelow}
+use Rattle.bitset.proofs.Below.{below-mem}
 use Rattle.solver.specs.declared.direction.Direction.{Direction}
 use Rattle.solver.specs.declared.direction.Direction.the-variants.{Initialization, Liveness}
 use Rattle.solver.specs.Neighbors.{readsOf, dependentsOf, neighbors}
@@ -74,12 +75,7 @@ same-is {w} {xs} {ys} hx hy = go (same xs ys) refl (sameBits (bitsOf (64 * w) xs
 
 -- each of a list of blocks is one
 pub below-each : (n : ℕ) (l : List ℕ) → AllBelow n l → Each (λ b. b < n) l
-below-each n [] h c q = absurd (List·Memᴰ·not-nil q)
-below-each n (x ∷ l) h c q = go (List·Memᴰ·cases-cons q) (λ r. below-each n l (h .1) c r)
-  where
-    go : (c ≡ x) ⊎ List·Memᴰ c l → (List·Memᴰ c l → c < n) → c < n
-    go (inl e) rest = rw e (h .0)
-    go (inr r) rest = rest r
+below-each n l h c q = below-mem n c l h q
 
 -- the transfer of liveness, as the code joins it
 live-turned : (x : Bool) {k k′ u u′ : Bool} → k ≡ k′ → u ≡ u′ → ((x && not k) || u) ≡ (u′ || (not k′ && x))

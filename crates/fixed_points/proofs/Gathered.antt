@@ -22,7 +22,7 @@ use Rattle.memory.specs.Names.{reachableCell, parametersRow}
 use Rattle.memory.specs.declared.layout.Layout.{Layout}
 use Rattle.edges.specs.Flow.{Flows}
 use Rattle.edges.proofs.FlowLaws.{Still}
-use Rattle.edges.specs.Predecessors.{AllBelow}
+use Rattle.bitset.specs.Below.{AllBelow}
 use Rattle.solver.specs.declared.direction.Direction.{Direction}
 use Rattle.solver.specs.declared.direction.Direction.the-variants.{Initialization, Liveness}
 use Rattle.solver.specs.Neighbors.{readsOf, neighbors}

@@ -1,48 +1,30 @@
 -- Numbers below a bound. Assumes nothing.
 use mathlib.Core.Path.{_≡_, sym, subst}
 use mathlib.Core.Bool.{false}
-use mathlib.Core.List.{List, [], _∷_, _++_}
-use Prim.Native.Nat.{ℕ, zero, suc, _+_, _*_, _≤_, _<_}
+use mathlib.Core.List.{List, [], _∷_}
+use Prim.Native.Nat.{ℕ, zero, suc, _+_, _*_, _<_}
 use native.Mathlib.Omega.{arith}
 use borrow.Author.Tests.{leb-false}
 use lib.Dec.{leb}
-use lib.ListN.{length, getD}
-use Rattle.operands.specs.Places.{absent}
 use Rattle.operands.specs.Bytes.{u32At, numbersAt}
 use Rattle.operands.specs.Instructions.{nth}
 use Rattle.operands.specs.declared.instruction.Value.the-variants.{Is}
 use Rattle.operands.proofs.NumberLaws.{number-at, number-count}
 use Rattle.format.specs.Fields.{anyAbove}
 use Rattle.format.proofs.Or.{or-none}
-use Rattle.instructions.specs.Sets.{AllBelow}
-
-pub below-getD : (n : ℕ) (l : List ℕ) (k d : ℕ) → AllBelow n l → k < length l → getD l k d < n
-below-getD n [] k d a h = absurd (omega arith)
-below-getD n (x ∷ l) zero d a h = a .0
-below-getD n (x ∷ l) (suc k) d a h = below-getD n l k d (a .1) (omega arith)
+use Rattle.bitset.specs.Below.{AllBelow}
+use Rattle.bitset.proofs.Below.{below-getD}
 
 pub below-number : (n : ℕ) (s : List ℕ) (at count k : ℕ) → AllBelow n (numbersAt s at count) → k < count → u32At s (at + 4 * k) < n
 below-number n s at count k a h =
     subst (λ (x : ℕ). x < n) (number-at s at count k 0 h)
     (below-getD n (numbersAt s at count) k 0 a (subst (λ (m : ℕ). k < m) (sym (number-count s at count)) h))
 
-pub below-up : (n m : ℕ) (l : List ℕ) → n ≤ m → AllBelow n l → AllBelow m l
-below-up n m [] h a = tt
-below-up n m (x ∷ l) h a = let b = a .0 in (omega arith, below-up n m l h (a .1))
-
 pub below-nth : (n : ℕ) (l : List ℕ) (i x : ℕ) → AllBelow n l → nth l i ≡ Is x → x < n
 unfolding nth
 below-nth n [] i x a e = let z : _≡_ {A = ℕ} 0 1 = cc in absurd (omega arith)
 below-nth n (y ∷ l) zero x a e = let q : y ≡ x = cc in omega (arith, a .0)
 below-nth n (y ∷ l) (suc i) x a e = below-nth n l i x (a .1) e
-
-pub below-append : (n : ℕ) (l m : List ℕ) → AllBelow n l → AllBelow n m → AllBelow n (l ++ m)
-below-append n [] m a b = b
-below-append n (x ∷ l) m a b = (a .0, below-append n l m (a .1) b)
-
-pub below-all : (n : ℕ) (l : List ℕ) → ((i : ℕ) → i < length l → getD l i absent < n) → AllBelow n l
-below-all n [] f = tt
-below-all n (x ∷ l) f = (f 0 (omega arith), below-all n l (λ i h. f (suc i) (omega arith)))
 
 -- none at or above it
 pub none-above : (n : ℕ) (l : List ℕ) → anyAbove n l ≡ false → AllBelow n l

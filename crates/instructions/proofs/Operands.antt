@@ -18,8 +18,8 @@ use Rattle.operands.proofs.PlaceLaws.{singles-more}
 use Rattle.operands.proofs.InstructionLaws.{field-there, drop-all, inputs-two}
 use Rattle.format.specs.Fields.{noSlot, noTarget, anyField}
 use Rattle.format.proofs.Or.{or-none}
-use Rattle.instructions.specs.Sets.{AllBelow}
-use Rattle.instructions.proofs.Below.{below-append, below-all}
+use Rattle.bitset.specs.Below.{AllBelow}
+use Rattle.bitset.proofs.Below.{below-append, below-all}
 
 -- where a test holds at no field, it does not hold at any one
 no-field : (f : ℕ → ℕ → Bool) (k j : ℕ) (v : List ℕ) → anyField f k j v ≡ false
@@ -137,7 +137,7 @@ module _ (k : ℕ) (v : List ℕ) (low : 1 ≤ k) (high : k ≤ 41) (fit : fits 
       where
         go : (q : Bool) → listAt k ≡ q → pick q (leb (fixedAt k) (length v)) (eqb (length v) (fixedAt k)) ≡ true → AllBelow slots (drop (fixedAt k) v)
         go true q e =
-            below-all slots (drop (fixedAt k) v) (λ i h.
+            below-all slots (drop (fixedAt k) v) absent (λ i h.
             let m = length-drop (fixedAt k) v in
             let j : fixedAt k + i < length v = omega arith in
             simp getD-drop (listed-at i q j))

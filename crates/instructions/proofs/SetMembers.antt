@@ -16,9 +16,10 @@ use Rattle.format.proofs.Or.{or-false}
 use Rattle.sheet.specs.Decode.{SlotKind, Parts, partsOf, recordsFrom}
 use Rattle.sheet.specs.declared.script.Script.{Script}
 use Rattle.instructions.specs.Slots.{isHost}
-use Rattle.instructions.specs.Sets.{AllBelow, insertedAll, insertedHosts, parameterRow, hostRow, isParameter, isHostSlot}
+use Rattle.bitset.specs.Below.{AllBelow}
+use Rattle.instructions.specs.Sets.{insertedAll, insertedHosts, parameterRow, hostRow, isParameter, isHostSlot}
 use Rattle.instructions.specs.Sound.{Sound}
-use Rattle.instructions.proofs.Below.{below-up}
+use Rattle.bitset.proofs.Below.{below-up}
 use Rattle.instructions.proofs.SetSteps.{length-pick}
 
 same-either-way : (i k : ℕ) → eqb i k ≡ eqb k i

@@ -41,7 +41,7 @@ use Rattle.sheet.specs.Checks.{awaitsIn, scriptOf, checkedOf, Checks}
 use Rattle.sheet.proofs.Checked.{clean, each-none, sized, offset-up, passed}
 use Rattle.sheet.proofs.WordLaws.{few-words, behind-words}
 use Rattle.instructions.specs.Placed.{placedAt}
-use Rattle.instructions.specs.Sets.{AllBelow}
+use Rattle.bitset.specs.Below.{AllBelow}
 use Rattle.instructions.specs.Sound.{Sound}
 use Rattle.instructions.proofs.Below.{below-nth, none-above}
 use Rattle.instructions.proofs.Operands.{no-field-at, inputs-ok, outputs-ok, targets-ok}

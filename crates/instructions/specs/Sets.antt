@@ -12,11 +12,6 @@ use Rattle.sheet.specs.Decode.{SlotKind, Parts, slotOf, recordsFrom, offsetOf}
 use Rattle.instructions.specs.declared.sets.HostWord.{HostWord}
 use Rattle.instructions.specs.Slots.{isHost}
 
--- each number of a list is below a bound
-abbrev pub AllBelow : ℕ → List ℕ → Type 0
-AllBelow n [] = Unit {0}
-AllBelow n (x ∷ xs) = (x < n) × AllBelow n xs
-
 -- a set with these slots put in
 unfoldable pub insertedAll : List ℕ → List ℕ → List ℕ
 insertedAll [] ws = ws

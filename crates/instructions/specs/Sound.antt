@@ -15,7 +15,7 @@ use Rattle.sheet.specs.Decode.{SlotKind, slotOf, instructionOf, recordsFrom, of
 use Rattle.sheet.specs.Checks.{awaitsIn}
 use Rattle.instructions.specs.Placed.{Stands, placedAt}
 use Rattle.instructions.specs.Slots.{isHost, SlotsStand}
-use Rattle.instructions.specs.Sets.{AllBelow}
+use Rattle.bitset.specs.Below.{AllBelow}
 
 -- where the k-th instruction record stands, and its instruction
 abbrev pub codeOffset : List ℕ → Script → ℕ → ℕ

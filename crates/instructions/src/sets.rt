@@ -10,7 +10,8 @@ ghost use Rattle.operands.specs.Choice.{pick};
 ghost use Rattle.bitset.specs.Rows.{row, patched};
 ghost use Rattle.sheet.specs.Decode.{slotOf, recordsFrom, partsOf};
 ghost use Rattle.instructions.specs.Slots.{SlotsStand};
-ghost use Rattle.instructions.specs.Sets.{AllBelow, insertedAll, insertedHosts, hostWordAt, parameterRow, hostRow};
+ghost use Rattle.bitset.specs.Below.{AllBelow};
+ghost use Rattle.instructions.specs.Sets.{insertedAll, insertedHosts, hostWordAt, parameterRow, hostRow};
 ghost use Rattle.instructions.specs.Sound.{Sound};
 
 // Puts so many numbers, which stand from an offset on, into the row at base.

@@ -32,7 +32,7 @@ use Rattle.budget.specs.Budget.{charged}
 use Rattle.budget.proofs.BudgetLaws.{ones-crossed}
 use Rattle.instructions.specs.declared.placed.Placed.{Placed}
 use Rattle.instructions.specs.Placed.{placedAt}
-use Rattle.instructions.specs.Sets.{AllBelow}
+use Rattle.bitset.specs.Below.{AllBelow}
 use Rattle.instructions.specs.Sound.{Sound, codeOffset, codeInstruction}
 use Rattle.script.specs.Script.{flowCode}
 use Rattle.script.proofs.ScriptLaws.{code-at, code-length, quiet}

@@ -19,7 +19,7 @@ use Rattle.memory.specs.Scratch.{scratchWidths}
 use Rattle.memory.specs.declared.layout.Layout.{Layout}
 use Rattle.memory.proofs.CellLaws.{Sized, sized-store, cell-store-other, word-store-other}
 use Rattle.memory.proofs.ScratchLaws.{word-put, place-instructions}
-use Rattle.instructions.specs.Sets.{AllBelow}
+use Rattle.bitset.specs.Below.{AllBelow}
 use Rattle.operands.specs.Instructions.{nth, targetIn}
 use Rattle.operands.specs.declared.slots.JumpTarget.{JumpTarget}
 use Rattle.operands.specs.declared.instruction.Value.the-variants as values

@@ -19,7 +19,7 @@ ghost use Rattle.operands.specs.Instructions.{Readable, valuesOf};
 ghost use Rattle.memory.specs.Cells.{store};
 ghost use Rattle.memory.specs.Names.{blockOfCell};
 ghost use Rattle.memory.specs.Scratch.{scratch, Room};
-ghost use Rattle.instructions.specs.Sets.{AllBelow};
+ghost use Rattle.bitset.specs.Below.{AllBelow};
 ghost use Rattle.instructions.specs.Sound.{Sound};
 ghost use Rattle.leaders.specs.Leaders.{marking, markAll, markNext, markedBy, Begun, Leads};
 

@@ -29,7 +29,8 @@ use Rattle.memory.proofs.CellLaws.{cell-store-same, cell-store-other}
 use Rattle.operands.specs.Kinds.{isAwait}
 use Rattle.sheet.specs.declared.script.Script.{Script}
 use Rattle.sheet.specs.Decode.{Parts, partsOf}
-use Rattle.instructions.specs.Sets.{AllBelow, insertedAll}
+use Rattle.bitset.specs.Below.{AllBelow}
+use Rattle.instructions.specs.Sets.{insertedAll}
 use Rattle.instructions.specs.Slots.{isHost}
 use Rattle.script.specs.Script.{flowCode, parameterIn, hostIn}
 use Rattle.points.specs.declared.awaits.Points.{Points}

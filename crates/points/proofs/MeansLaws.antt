@@ -13,7 +13,8 @@ use Rattle.bitset.proofs.SetLaws.{length-removed, member-removed}
 use Rattle.dataflow.specs.Lists.{elem}
 use Rattle.dataflow.specs.Analyses.{initTransfer, liveTransfer}
 use Rattle.dataflow.specs.Code.{Instruction, instructionAt, program}
-use Rattle.instructions.specs.Sets.{AllBelow, insertedAll}
+use Rattle.bitset.specs.Below.{AllBelow}
+use Rattle.instructions.specs.Sets.{insertedAll}
 use Rattle.blocks.proofs.MemberLaws.{member-all}
 use Rattle.points.specs.Slots.{removedAll}
 use Rattle.answer.specs.Words.{Means}

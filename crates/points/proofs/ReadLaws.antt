@@ -29,7 +29,8 @@ use Rattle.sheet.specs.declared.script.Script.{Script}
 use Rattle.sheet.specs.Decode.{partsOf}
 use Rattle.instructions.specs.declared.placed.Placed.{Placed}
 use Rattle.instructions.specs.Placed.{Stands, placedAt}
-use Rattle.instructions.specs.Sets.{AllBelow, insertedAll}
+use Rattle.bitset.specs.Below.{AllBelow}
+use Rattle.instructions.specs.Sets.{insertedAll}
 use Rattle.instructions.specs.Sound.{codeOffset}
 use Rattle.script.specs.Script.{listOf, flowCode, hostIn}
 use Rattle.script.proofs.ScriptLaws.{code-at}

@@ -12,7 +12,8 @@ ghost use Rattle.operands.specs.Operands.{inputsOf, outputOf};
 ghost use Rattle.operands.specs.Instructions.{Readable, valuesOf};
 ghost use Rattle.memory.specs.Cells.{cell, storeCell};
 ghost use Rattle.memory.specs.Scratch.{scratch, Room, Row};
-ghost use Rattle.instructions.specs.Sets.{AllBelow, insertedAll};
+ghost use Rattle.bitset.specs.Below.{AllBelow};
+ghost use Rattle.instructions.specs.Sets.{insertedAll};
 ghost use Rattle.script.specs.Script.{listOf};
 ghost use Rattle.points.specs.Slots.{removedAll};
 

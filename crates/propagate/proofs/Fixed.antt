@@ -17,7 +17,7 @@ use Rattle.memory.specs.Names.{reachableCell, ringCell, queuedCell, successorCe
 use Rattle.memory.specs.Names.{predecessorCountCell, usesRow, definesRow, parametersRow}
 use Rattle.memory.specs.declared.layout.Layout.{Layout}
 use Rattle.memory.proofs.CellLaws.{cell-store-same, cell-store-other}
-use Rattle.edges.specs.Predecessors.{AllBelow}
+use Rattle.bitset.specs.Below.{AllBelow}
 use Rattle.solver.specs.declared.direction.Direction.{Direction}
 use Rattle.solver.specs.declared.direction.Direction.the-variants.{Initialization, Liveness}
 use Rattle.solver.specs.declared.direction.Side.{Side}

@@ -9,11 +9,12 @@ use Rattle.memory.specs.Cells.{Mem, word}
 use Rattle.memory.specs.Names.{successorCell, successorCountCell, firstEdgeCell, nextEdgeCell, predecessorCountCell}
 use Rattle.memory.specs.declared.layout.Layout.{Layout}
 use Rattle.edges.specs.Edges.{Holds}
-use Rattle.edges.specs.Predecessors.{chainFrom, predecessorsOf, AllBelow, Chained}
+use Rattle.bitset.specs.Below.{AllBelow}
+use Rattle.edges.specs.Predecessors.{chainFrom, predecessorsOf, Chained}
 use Rattle.edges.proofs.ResultLaws.{count-few}
 use Rattle.solver.specs.declared.direction.Side.{Side}
 use Rattle.solver.specs.declared.direction.Side.the-variants.{Successors, Predecessors}
-use Rattle.propagate.proofs.RingWords.{all-below}
+use Rattle.bitset.proofs.Below.{below-all}
 use Rattle.solver.specs.Neighbors.{countOf, firstOf, endOf, edgesFrom, neighborsFrom, neighbors, Connected}
 
 -- the edges that lead to a block are its chain
@@ -68,7 +69,7 @@ module _ {next : ℕ → List ℕ} {y : Layout} {m : Mem} (h : Holds next y m) w
     ends-in : (side : Side) (b : ℕ) → b < y .blocks → AllBelow (y .blocks) (neighbors side m b)
     unfolding neighborsFrom
     ends-in Successors b lt =
-        subst (λ (es : List ℕ). AllBelow (y .blocks) es) (sym (successors-are b lt)) (all-below (y .blocks) (next b) (λ k kt. h .below b k lt kt))
+        subst (λ (es : List ℕ). AllBelow (y .blocks) es) (sym (successors-are b lt)) (below-all (y .blocks) (next b) 0 (λ k kt. h .below b k lt kt))
     ends-in Predecessors b lt =
         halves-below (y .blocks) (edgesFrom Predecessors m (word m predecessorCountCell b) (word m firstEdgeCell b)) (edges-in Predecessors b lt)
 

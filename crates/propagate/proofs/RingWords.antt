@@ -10,7 +10,7 @@ use lib.Seq.{getD-set-same, getD-set-other, drop-cons, take-at}
 use Rattle.dataflow.specs.Lists.{sum}
 use Rattle.memory.specs.declared.layout.Layout.{Layout}
 use Rattle.edges.specs.Edges.{marked}
-use Rattle.edges.specs.Predecessors.{AllBelow}
+use Rattle.bitset.specs.Below.{AllBelow}
 use Rattle.solver.specs.Run.{wrap}
 use Rattle.solver.proofs.RingLaws.{wrap-below, wrap-past, wrap-lt}
 
@@ -119,22 +119,13 @@ sum-marks (suc x ∷ l) h = omega (arith, h 0, sum-marks l (λ i. h (suc i)))
 
 -- ---- lists of blocks
 
--- each of a list is below n where each place is
-pub all-below : (n : ℕ) (l : List ℕ) → ((k : ℕ) → k < length l → getD l k 0 < n) → AllBelow n l
-all-below n [] f = tt
-all-below n (x ∷ l) f = (f 0 (omega arith), all-below n l (λ k lt. f (suc k) (omega arith)))
-
--- and each place, and what stands past the end
+-- each place of blocks below n, and what stands past the end
 pub below-at : (n : ℕ) (l : List ℕ) → 0 < n → AllBelow n l → (i : ℕ) → getD l i 0 < n
 below-at n [] h a i = h
 below-at n (x ∷ l) h a zero = a .0
 below-at n (x ∷ l) h a (suc i) = below-at n l h (a .1) i
 
--- lists put together, turned round, without their first, and of zeros
-pub below-append : (n : ℕ) (l r : List ℕ) → AllBelow n l → AllBelow n r → AllBelow n (l ++ r)
-below-append n [] r a b = b
-below-append n (x ∷ l) r a b = (a .0, below-append n l r (a .1) b)
-
+-- such lists turned round, without their first, and of zeros
 pub below-reverse : (n : ℕ) (l r : List ℕ) → AllBelow n l → AllBelow n r → AllBelow n (reverseAux l r)
 below-reverse n [] r a b = b
 below-reverse n (x ∷ l) r a b = below-reverse n l (x ∷ r) (a .1) (a .0, b)

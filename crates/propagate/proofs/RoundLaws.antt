@@ -23,7 +23,7 @@ use Rattle.memory.proofs.CellLaws.{Sized, cell-store-same, cell-store-other}
 use Rattle.memory.proofs.ScratchLaws.{scratch-count, sized-blocks}
 use Rattle.memory.proofs.SetsLaws.{sets-count}
 use Rattle.edges.specs.Edges.{marked}
-use Rattle.edges.specs.Predecessors.{AllBelow}
+use Rattle.bitset.specs.Below.{AllBelow}
 use Rattle.solver.specs.declared.direction.Direction.{Direction}
 use Rattle.solver.specs.declared.direction.Direction.the-variants.{Initialization, Liveness}
 use Rattle.solver.specs.declared.ring.Ring.{Ring}
@@ -34,7 +34,8 @@ use Rattle.solver.specs.Run.{At, Out, stop, on, atOf, outOf, paid, run, Good, I
 use Rattle.solver.proofs.NeighborLaws.{connected-kept}
 use Rattle.solver.proofs.SeedLaws.{queue-length}
 use Rattle.propagate.specs.Rounds.{rowSolver, beginning, roundRun, roundCharges, chargedOf, Seedable, Propagated}
-use Rattle.propagate.proofs.RingWords.{ringWords, ring-none, ring-full, sum-marks, below-at, below-append, below-reverse, below-drop}
+use Rattle.bitset.proofs.Below.{below-append}
+use Rattle.propagate.proofs.RingWords.{ringWords, ring-none, ring-full, sum-marks, below-at, below-reverse, below-drop}
 use Rattle.propagate.proofs.RingWords.{below-zeros, below-take}
 use Rattle.propagate.proofs.Fixed.{Fixed, fixed-none, fixed-ring, fixed-queued, fixed-edges}
 use Rattle.propagate.proofs.Simulation.{Simulates}

@@ -15,7 +15,7 @@ use Rattle.memory.specs.Cells.{Mem, cell, word, store, storeCell}
 use Rattle.memory.specs.Names.{queuedCell, reachableCell, ringCell}
 use Rattle.memory.specs.declared.layout.Layout.{Layout}
 use Rattle.memory.proofs.CellLaws.{cell-store-same, cell-store-other}
-use Rattle.edges.specs.Predecessors.{AllBelow}
+use Rattle.bitset.specs.Below.{AllBelow}
 use Rattle.edges.specs.Edges.{marked}
 use Rattle.edges.proofs.EdgeLaws.{marked-yes, marked-no}
 use Rattle.solver.specs.declared.direction.Direction.{Direction}
@@ -25,8 +25,9 @@ use Rattle.solver.specs.Run.{At, atOf, wrap, popped, pushed, offered, firstIn}
 use Rattle.solver.proofs.TransferLaws.{row-other}
 use Rattle.solver.proofs.RingLaws.{wrap-lt, pushed-marks, pushed-ring}
 use Rattle.propagate.specs.Rounds.{rowsOf, rowSolver}
+use Rattle.bitset.proofs.Below.{below-append}
 use Rattle.propagate.proofs.RingWords.{ringWords, ring-push, ring-pop, marks-at}
-use Rattle.propagate.proofs.RingWords.{trues, trues-few, trues-more, trues-less, below-append}
+use Rattle.propagate.proofs.RingWords.{trues, trues-few, trues-more, trues-less}
 use Rattle.propagate.proofs.Fixed.{Fixed, fixed-ring, fixed-queued, fixed-running, fixed-reachable, rows-set}
 
 -- The words of s, which were m₀ and t₀ at the beginning, hold the rows and the ring of a worklist state.

@@ -21,25 +21,17 @@ use Rattle.operands.proofs.Table.{at}
 use Rattle.operands.specs.Instructions.{valuesOf}
 use Rattle.sheet.specs.declared.script.Script.{Script}
 use Rattle.sheet.specs.Decode.{Instruction, partsOf, instructionOf}
-use Rattle.instructions.specs.Sets.{AllBelow}
+use Rattle.bitset.specs.Below.{AllBelow}
+use Rattle.bitset.proofs.Below.{below-mem}
 use Rattle.instructions.specs.Sound.{Sound, codeInstruction}
 use Rattle.instructions.proofs.SetMembers.{records-count}
 use Rattle.script.specs.Script.{listOf, flowInstruction, flowCode, parameterIn}
 
 -- ---- lists
 
--- what stands in a list of numbers below n is below n
-mem-below : (n x : ℕ) (l : List ℕ) → AllBelow n l → List·Memᴰ x l → x < n
-mem-below n x [] b m = absurd (List·Memᴰ·not-nil m)
-mem-below n x (y ∷ l) b m = go (List·Memᴰ·cases-cons m) (mem-below n x l (b .1))
-  where
-    go : (x ≡ y) ⊎ List·Memᴰ x l → (List·Memᴰ x l → x < n) → x < n
-    go (inl e) f = omega (arith, b .0)
-    go (inr q) f = f q
-
--- as a test
+-- what stands in a list of numbers below n, by the test, is below n
 elem-below : (n x : ℕ) (l : List ℕ) → AllBelow n l → elem x l ≡ true → x < n
-elem-below n x l b e = mem-below n x l b (elem-mem x l e)
+elem-below n x l b e = below-mem n x l b (elem-mem x l e)
 
 -- ---- the code of a sheet that passed
 
@@ -86,7 +78,7 @@ module _ (s : List ℕ) (x : Script) (h : Sound s x) where
         (λ k l. written k l (outputOf (read k .kind) (read k .fields)) refl) (λ e. absurd (false≢true e)) i;
     parameters-below = λ t e. elem-below (x .slots) t (partsOf s .params) (h .params-below) e;
     targets-below = λ i t. everywhere (λ v. List·Memᴰ t (v .targets) → t < length (flowCode (partsOf s)))
-        (λ k l m. subst (λ (n : ℕ). t < n) (sym code-length) (mem-below (x .count) t (targetsOf (read k .kind) (read k .fields)) (h .targets-below k l) m)) (λ m. absurd (List·Memᴰ·not-nil m)) i;
+        (λ k l m. subst (λ (n : ℕ). t < n) (sym code-length) (below-mem (x .count) t (targetsOf (read k .kind) (read k .fields)) (h .targets-below k l) m)) (λ m. absurd (List·Memᴰ·not-nil m)) i;
     closed-end = λ i e. ends i (omega (arith, code-length));
   }
     where

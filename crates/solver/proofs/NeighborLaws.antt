@@ -5,7 +5,7 @@ use mathlib.Core.List.{List, [], _∷_}
 use Prim.Native.Nat.{ℕ, zero, suc, _+_, _*_, _-_, _≤_, _<_}
 use native.Mathlib.Omega.{arith}
 use lib.ListN.{getD}
-use Rattle.edges.specs.Predecessors.{AllBelow}
+use Rattle.bitset.specs.Below.{AllBelow}
 use Rattle.memory.specs.Cells.{Mem, cell, storeCell}
 use Rattle.memory.specs.Names.{successorCell, successorCountCell, firstEdgeCell, nextEdgeCell, predecessorCountCell}
 use Rattle.memory.specs.declared.layout.Layout.{Layout}

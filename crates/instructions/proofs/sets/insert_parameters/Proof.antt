@@ -5,9 +5,10 @@ use Prim.Native.Nat.{ℕ, _*_}
 use denote.Ref.{now}
 use lib.ListN.{replicate, length-replicate}
 use borrow.Author.Needs.{needs}
-use Rattle.instructions.specs.Sets.{AllBelow, insertedAll, parameterRow}
+use Rattle.bitset.specs.Below.{AllBelow}
+use Rattle.instructions.specs.Sets.{insertedAll, parameterRow}
 use Rattle.sheet.specs.Decode.{partsOf}
-use Rattle.instructions.proofs.Below.{below-up}
+use Rattle.bitset.proofs.Below.{below-up}
 use Rattle.instructions.proofs.SetSteps.{length-all, cleared}
 use Rattle.instructions.proofs.sets.insert_parameters.Statement.{statement}
 use Rattle.instructions.proofs.sets.insert_parameters.Tie as tie
