@@ -35,8 +35,8 @@ unfoldable pub awaitsIn : List Instruction → ℕ
 awaitsIn [] = 0
 awaitsIn (i ∷ is) = pick (isAwait (i .kind)) 1 0 + awaitsIn is
 
--- The words of slots up to the last slot that may be a host slot: behind them each has a plain record below the host types. Of n slots, the
--- first is slot i, with its record at an offset; m words are so up to there.
+-- how many words of 64 slots there are up to the last slot whose record is not plain below the host types, so that no slot behind them is a host
+-- slot: of n slots from slot i on, the first with its record at an offset, after m words
 unfoldable pub hostWords : List ℕ → ℕ → ℕ → ℕ → ℕ → ℕ
 hostWords s at zero i m = m
 hostWords s at (suc n) i m = hostWords s (endAt s at) n (suc i) (pick (plainSlot s 1 at) m (i / 64 + 1))

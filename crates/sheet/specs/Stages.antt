@@ -41,9 +41,11 @@ unfoldable pub awaitsFrom : List ℕ → ℕ → ℕ → ℕ
 awaitsFrom s at zero = 0
 awaitsFrom s at (suc n) = oneIf (isAwait (kindAt s at)) + awaitsFrom s (endAt s at) n
 
+-- the answer to so many slot records: the first refusal, or where they end
 abbrev pub anySlots : List ℕ → ℕ → ℕ → Step
 anySlots s slots at = stepOf (firstOf (λ a. slotFault s a) s at slots) (offsetOf s at slots) 258
 
+-- the same with the words of host slots
 abbrev pub slotsOf : Option Refusal → ℕ → ℕ → Slots
 slotsOf (some r) end words = Halt r
 slotsOf none end words = Through end words
@@ -55,6 +57,7 @@ abbrev pub refusalInSlots : Slots → Refusal
 refusalInSlots (Halt r) = r
 refusalInSlots (Through end words) = ShortSheet
 
+-- the answer to so many instruction records: the first refusal, or where they end, the last kind and the awaits
 abbrev pub codeOf : Option Refusal → ℕ → ℕ → ℕ → Code
 codeOf (some r) end last awaits = Stop r
 codeOf none end last awaits = Ended end last awaits
