@@ -169,6 +169,52 @@ fn every_script_over_two_slots() {
     assert!(report.sheets > 200_000);
 }
 
+/// A slot of every physical byte and of several types at every place among plain ones,
+/// saved over an await.
+#[test]
+fn every_place_of_a_host_slot() {
+    let nested = Type::Tuple(vec![Type::Other, Type::Tuple(vec![Type::Reference])]);
+    let types = [
+        (Type::Absent, false),
+        (Type::Other, false),
+        (Type::Host, true),
+        (Type::Reference, true),
+        (Type::Tuple(vec![]), false),
+        (Type::Tuple(vec![Type::Other]), false),
+        (nested, true),
+    ];
+    let mut comparison = Comparison::default();
+    let mut hosts = 0;
+    for slots in [2, 63, 64, 65, 128, 129] {
+        for place in 0..slots {
+            for (physical, (ty, inline_host)) in
+                (0..=12).flat_map(|p| types.iter().map(move |t| (p, t)))
+            {
+                let other = u32::from(place == 0);
+                let mut script = Script {
+                    id: 7,
+                    slots: vec![plain(); slots as usize],
+                    parameters: vec![place],
+                    code: vec![await_value(other, place), return_value(place)],
+                };
+                script.slots[place as usize] = SlotType {
+                    physical,
+                    ty: ty.clone(),
+                };
+                hosts += u64::from(*inline_host || physical == 10);
+                let sheet = sheet(&script);
+                let known = Known::new(&sheet);
+                let found = format_args!("slot {place} of {slots}");
+                comparison.compare(&sheet, &known, &[Plan::plain()], found);
+            }
+        }
+    }
+    let report = shown("every place of a host slot", comparison.report);
+    report.hold([0, 14], 10_000);
+    assert_eq!(report.times(14), hosts);
+    assert_eq!(report.times(0), report.calls - hosts);
+}
+
 /// Small scripts from every budget with which the work limit is met, charge by charge.
 #[test]
 fn every_budget() {
