@@ -33,6 +33,14 @@ member-zero w i = go (decLt (i / 64) w)
 pub member-ones : (w i : ℕ) → i / 64 < w → member (replicate w ones) i ≡ true
 member-ones w i h = member-word (replicate w ones) i ones (getD-replicate w (i / 64) ones 0 h) ∙ bit-ones (i % 64) (omega arith)
 
+-- which of two numbers is asked about makes no difference
+pub same-either-way : (i k : ℕ) → eqb i k ≡ eqb k i
+same-either-way i k = go (ℕ-discrete i k)
+  where
+    go : Dec (i ≡ k) → eqb i k ≡ eqb k i
+    go (yes e) = eq-eqb i k e ∙ sym (eq-eqb k i (sym e))
+    go (no e) = ne-eqb i k e ∙ sym (ne-eqb k i (λ q. e (sym q)))
+
 -- ---- one slot: g says what becomes of a slot, at whether it is slot i
 module _ (ws : List ℕ) (i : ℕ) (h : i / 64 < length ws) where
   member-set : (v : ℕ) (g : Bool → Bool → Bool) → ((b : Bool) → g false b ≡ b)

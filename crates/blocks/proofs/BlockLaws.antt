@@ -2,8 +2,8 @@
 use mathlib.Core.Logic.{_≢_}
 use mathlib.Core.Path.{_≡_, refl, sym, ap, subst, _∙_}
 use mathlib.Core.Bool.{Bool, false}
-use mathlib.Core.List.{List, [], _∷_, map, List·Memᴰ}
-use Prim.Native.Nat.{ℕ, zero, suc, _+_, _*_, _-_, _≤_, _<_}
+use mathlib.Core.List.{List, map, List·Memᴰ}
+use Prim.Native.Nat.{ℕ, suc, _+_, _*_, _-_, _≤_, _<_}
 use native.Mathlib.Decide.{decLt}
 use native.Mathlib.Numerals.{add-one}
 use native.Mathlib.Omega.{arith}
@@ -15,13 +15,14 @@ use Rattle.dataflow.specs.Lists.{pick}
 use Rattle.dataflow.specs.Blocks.{uses, defines}
 use Rattle.dataflow.specs.Code.{Instruction, instructionAt, successors, program, lastOr, indexOf, leaders, body, blockSuccessors}
 use Rattle.dataflow.specs.Results.{blockCount}
-use Rattle.dataflow.proofs.Lists.{mem-getD}
+use Rattle.dataflow.proofs.Leaders.{leaders-count}
+use Rattle.dataflow.proofs.Lists.{map-at, mem-getD}
 use Rattle.memory.specs.Cells.{Mem, cell, word, store, storeCell}
 use Rattle.memory.specs.Names.{offsetCell, blockOfCell, leaderCell, costCell, startCell, endCell, successorCell, successorCountCell}
 use Rattle.memory.specs.Names.{usesRow, definesRow}
 use Rattle.memory.specs.Scratch.{scratchWidths, Row}
 use Rattle.memory.specs.declared.layout.Layout.{Layout}
-use Rattle.memory.proofs.CellLaws.{Sized, sized-store, sized-cell, cell-store-same, cell-store-other, word-cell-other, word-store-other}
+use Rattle.memory.proofs.CellLaws.{Sized, same-word, sized-store, sized-cell, cell-store-same, cell-store-other, word-cell-other, word-store-other}
 use Rattle.memory.proofs.ScratchLaws.{word-put, sized-among, width-row, place-blocks}
 use Rattle.budget.specs.declared.FlowBudget.{FlowBudget}
 use Rattle.budget.specs.declared.Limits.{Limits}
@@ -44,19 +45,9 @@ use Rattle.blocks.specs.Words.{endOf, spanned, nextOf, putEdges}
 use Rattle.blocks.specs.Rows.{Transfer, transferAll, costOf, rowsAt, Transferred}
 use Rattle.blocks.specs.Blocks.{Ready, Block, BuiltOne}
 use Rattle.blocks.proofs.ReadLaws.{flow-ends, flow-targets, inputs-everywhere, outputs-everywhere, targets-everywhere}
-use Rattle.blocks.proofs.CodeLaws.{leaders-count, starts-up, Spans, spans-at, few-successors, behind-inside, next-leads}
+use Rattle.blocks.proofs.CodeLaws.{starts-up, Spans, spans-at, few-successors, behind-inside, next-leads}
 use Rattle.blocks.proofs.EdgeLaws.{edges-other, edges-counted, counts-other, edges-lead, edges-unused, edges-before}
 use Rattle.blocks.proofs.MemberLaws.{members-from-none}
-
--- words of cells that are equal are equal
-same-word : {u v : List ℕ} (i : ℕ) → u ≡ v → getD u i 0 ≡ getD v i 0
-same-word i e = ap (λ (ws : List ℕ). getD ws i 0) e
-
--- the k-th number of a list through f
-number-at : (f : ℕ → ℕ) (l : List ℕ) (k : ℕ) → k < length l → getD (map f l) k 0 ≡ f (getD l k 0)
-number-at f [] k h = absurd (omega arith)
-number-at f (x ∷ l) zero h = refl
-number-at f (x ∷ l) (suc k) h = number-at f l k (omega arith)
 
 -- the index of the blocks stays where its three cells stay
 pub ready-kept : {s : List ℕ} {x : Script} {y : Layout} {m m′ : Mem} → Ready s x y m → cell m′ offsetCell ≡ cell m offsetCell
@@ -245,7 +236,7 @@ module _ (s : List ℕ) (x : Script) (y : Layout) (m : Mem) (ok : Ready s x y m)
           (subst (λ (r : List ℕ). List·Memᴰ (getD nexts k 0) r) en (mem-getD nexts k 0 l)) in
           same-word (getD nexts k 0) (em .others blockOfCell (λ w. omega arith) (λ w. omega arith) (λ w. omega arith) (λ w. omega arith))
           ∙ ok .index .numbers (getD nexts k 0) (omega (arith, g .1, code-length s x (ok .sound))) (g .0)
-          ∙ sym (ap (λ (r : List ℕ). getD r k 0) successors-are ∙ number-at (λ (t : ℕ). indexOf t (leaders code)) nexts k l)
+          ∙ sym (same-word k successors-are ∙ map-at (λ (t : ℕ). indexOf t (leaders code)) nexts k 0 0 l)
 
       module _ (l : Limits) (budget : FlowBudget) (m₄ : Mem) (r : Charged) (t : Transferred (flowCode (partsOf s)) l budget b start end m₃ m₄ r) where
         cell₄ : (k : ℕ) → k ≢ costCell → k ≢ usesRow b → k ≢ definesRow b → k ≢ successorCountCell → k ≢ successorCell → cell m₄ k ≡ cell m₂ k

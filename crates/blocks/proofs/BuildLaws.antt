@@ -2,7 +2,7 @@
 use mathlib.Core.Logic.{_≢_, _⊎_, inl, inr}
 use mathlib.Core.Path.{_≡_, refl, sym, ap, subst, _∙_}
 use mathlib.Core.Bool.{Bool}
-use mathlib.Core.List.{List, [], _∷_, _++_, map, append-nil, append-assoc}
+use mathlib.Core.List.{List, [], _∷_, _++_, map, map-append, append-nil, append-assoc}
 use Prim.Native.Nat.{ℕ, suc, _+_, _*_, _-_, _≤_, _<_}
 use native.Mathlib.Decide.{ℕ-discrete}
 use native.Mathlib.Omega.{arith}
@@ -20,12 +20,12 @@ use Rattle.budget.specs.declared.FlowBudget.{FlowBudget}
 use Rattle.budget.specs.declared.Limits.{Limits}
 use Rattle.budget.specs.declared.Charged.{Charged}
 use Rattle.budget.specs.declared.Charged.the-variants.{Ok, Over}
-use Rattle.budget.specs.Budget.{charged, andCharged}
-use Rattle.budget.proofs.BudgetLaws.{charged-none, charged-append}
+use Rattle.budget.specs.Budget.{charged}
+use Rattle.budget.proofs.BudgetLaws.{charged-none, met-then, over-then}
 use Rattle.sheet.specs.declared.script.Script.{Script}
 use Rattle.blocks.specs.Rows.{costOf}
 use Rattle.blocks.specs.Blocks.{Ready, Block, Fresh, Untouched, BuiltOne, Built}
-use Rattle.blocks.proofs.TransferLaws.{map-append, range-more, range-at, charged-on}
+use Rattle.blocks.proofs.TransferLaws.{range-more, range-at}
 use Rattle.blocks.proofs.BlockLaws.{ready-kept}
 
 -- ---- the instructions of blocks, in two parts
@@ -145,10 +145,7 @@ module _ (code : List Instruction) (y : Layout) (l : Limits) (budget left : Flow
     pub built-over : (t : Mem) (x : FlowBudget) → y .blocks ≡ blockCount code → r ≡ Over x → Built code y l budget m m″ t t″ r
     built-over t x e f = record {
       charges = f ∙ sym (ap (charged l budget) (charges-at code index (blockCount code) (omega arith))
-          ∙ charged-on l budget (chargesOf code (range 0 index)) left (g .charges) _
-          ∙ charged-append l left (map (costOf code) (body code index)) (chargesOf code (range (suc index) (blockCount code - suc index)))
-          ∙ ap (λ (c : Charged). andCharged c (λ b. charged l b (chargesOf code (range (suc index) (blockCount code - suc index)))))
-          (sym (o .charges) ∙ f));
+          ∙ met-then l budget _ _ (g .charges) ∙ over-then l left (map (costOf code) (body code index)) _ (sym (o .charges) ∙ f));
       blocks = λ z q. let w : _≡_ {A = ℕ} 0 1 = cc in absurd (omega arith);
       fresh = λ z q. let w : _≡_ {A = ℕ} 0 1 = cc in absurd (omega arith);
       others = others-more;
@@ -159,8 +156,7 @@ module _ (code : List Instruction) (y : Layout) (l : Limits) (budget left : Flow
         → t″ ≡ storeCell (storeCell t′ (initializedRow index) (replicate (y .words) ones)) (liveRow index) (replicate (y .words) 0)
         → Building code y l budget left′ (index + 1) m m″ t″
     building-more left′ f n e = record {
-      charges = ap (charged l budget) (charges-more code index) ∙ charged-on l budget (chargesOf code (range 0 index)) left (g .charges) _
-          ∙ sym (o .charges) ∙ f;
+      charges = ap (charged l budget) (charges-more code index) ∙ met-then l budget _ _ (g .charges) ∙ sym (o .charges) ∙ f;
       blocks = λ parameter c b. block-at parameter c b (ℕ-discrete c index);
       fresh = fresh-more y index t′ t″ n e (g .fresh);
       others = others-more;

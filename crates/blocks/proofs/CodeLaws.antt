@@ -1,44 +1,17 @@
 -- The blocks of code: where each begins and ends, its last instruction, and where control goes from there. Assumes nothing.
-use mathlib.Core.Path.{_≡_, refl, sym, ap, _∙_}
+use mathlib.Core.Path.{_≡_, sym, ap, _∙_}
 use mathlib.Core.Bool.{Bool, true, false, false≢true}
-use mathlib.Core.List.{List, [], _∷_, _++_, List·Memᴰ}
+use mathlib.Core.List.{List, [], _∷_, List·Memᴰ}
 use Prim.Native.Nat.{ℕ, zero, suc, _+_, _-_, _≤_, _<_}
-use native.Mathlib.Decide.{ℕ-discrete, decLt}
+use native.Mathlib.Decide.{ℕ-discrete}
 use native.Mathlib.Omega.{arith}
-use lib.ListN.{length, getD, length-map, List·getD-map, List·getD-eq-default}
-use Rattle.dataflow.specs.Lists.{pick, range, keep}
-use Rattle.dataflow.specs.Code.{Instruction, instructionAt, successors, leader, headOr, lastOr, indexOf, blocks, leaders, body, blockSuccessors}
+use lib.ListN.{length, getD, length-map}
+use Rattle.dataflow.specs.Lists.{pick, range}
+use Rattle.dataflow.specs.Code.{Instruction, instructionAt, successors, leader, lastOr, indexOf, leaders, body, blockSuccessors}
 use Rattle.dataflow.specs.Results.{blockCount}
 use Rattle.dataflow.specs.Checked.{Checked}
-use Rattle.dataflow.proofs.Leaders.{leaders-are, block-range}
-use Rattle.dataflow.proofs.CodeBlocks.{basic-blocks, successors-below}
-use Rattle.leaders.proofs.NumberLaws.{range-snoc}
-
--- ---- what is kept of k, k + 1, ..
-
-module _ (f : ℕ → Bool) where
-  -- passes the test
-  keep-yes : (l : List ℕ) (b d : ℕ) → b < length (keep f l) → f (getD (keep f l) b d) ≡ true
-  keep-yes [] b d h = absurd (omega arith)
-  keep-yes (x ∷ l) b d h = go (f x) refl b h (λ c g. keep-yes l c d g)
-    where
-      go : (t : Bool) → f x ≡ t → (b : ℕ) → b < length (pick t (x ∷ keep f l) (keep f l))
-          → ((c : ℕ) → c < length (keep f l) → f (getD (keep f l) c d) ≡ true) → f (getD (pick t (x ∷ keep f l) (keep f l)) b d) ≡ true
-      go true e zero h below = e
-      go true e (suc b) h below = below b (omega arith)
-      go false e b h below = below b h
-
-  -- and is one of them
-  keep-below : (k m b d : ℕ) → b < length (keep f (range k m)) → getD (keep f (range k m)) b d < k + m
-  keep-below k zero b d h = absurd (omega arith)
-  keep-below k (suc m) b d h = go (f k) b h (λ c g. keep-below (suc k) m c d g)
-    where
-      go : (t : Bool) (b : ℕ) → b < length (pick t (k ∷ keep f (range (suc k) m)) (keep f (range (suc k) m)))
-          → ((c : ℕ) → c < length (keep f (range (suc k) m)) → getD (keep f (range (suc k) m)) c d < suc k + m)
-          → getD (pick t (k ∷ keep f (range (suc k) m)) (keep f (range (suc k) m))) b d < k + suc m
-      go true zero h below = omega arith
-      go true (suc b) h below = omega (arith, below b (omega arith))
-      go false b h below = omega (arith, below b h)
+use Rattle.dataflow.proofs.Leaders.{starts-lead, leaders-below, block-range}
+use Rattle.dataflow.proofs.CodeBlocks.{basic-blocks, last-target}
 
 -- the last of k, k + 1, ..
 last-range : (d k n : ℕ) → lastOr d (range k (suc n)) ≡ k + n
@@ -48,25 +21,6 @@ last-range d k (suc n) = last-range k (suc k) n ∙ omega arith
 -- ---- the blocks' starts
 
 module _ (code : List Instruction) where
-  -- as many as blocks
-  pub leaders-count : length (leaders code) ≡ blockCount code
-  leaders-count = length-map (blocks code) (headOr 0)
-
-  -- a block begins at a leader
-  module _ (b : ℕ) (h : b < blockCount code) where
-    kept : length (keep (leader code) (range 0 (length code))) ≡ blockCount code
-    kept = ap length (sym (leaders-are code)) ∙ leaders-count
-
-    pub start-leads : leader code (getD (leaders code) b (length code)) ≡ true
-    start-leads =
-        ap (λ (l : List ℕ). leader code (getD l b (length code))) (leaders-are code)
-        ∙ keep-yes (leader code) (range 0 (length code)) b (length code) (omega (arith, kept))
-
-    pub start-below : getD (leaders code) b (length code) < length code
-    start-below =
-        let e = ap (λ (l : List ℕ). getD l b (length code)) (leaders-are code) in
-        omega (arith, e, keep-below (leader code) 0 (length code) b (length code) (omega (arith, kept)))
-
   -- the starts ascend
   pub starts-up : (b e : ℕ) → b + e ≤ blockCount code → getD (leaders code) b (length code) ≤ getD (leaders code) (b + e) (length code)
   starts-up b zero h = let q : b + 0 ≡ b = omega arith in rw q (omega arith)
@@ -105,7 +59,7 @@ module _ (code : List Instruction) (parameter : ℕ → Bool) (slots : ℕ) (ch 
     begins = p;
     ends = q;
     some = some;
-    inside = inside (decLt (suc b) (blockCount code));
+    inside = omega (arith, q, leaders-below code (suc b));
     last = ap (lastOr 0) (is ∙ ap (range start) next) ∙ last-range 0 start (end - 1 - start) ∙ omega (arith, some);
   }
     where
@@ -127,12 +81,6 @@ module _ (code : List Instruction) (parameter : ℕ → Bool) (slots : ℕ) (ch 
       is : body code b ≡ range start (end - start)
       is = block-range code b h .0 ∙ ap (λ (k : ℕ). range k (length (body code b))) (sym p) ∙ ap (range start) count
 
-      inside : Dec (suc b < blockCount code) → end ≤ length code
-      inside (yes l) = omega (arith, q, start-below code (suc b) l)
-      inside (no l) =
-          let e = List·getD-eq-default (leaders code) (length code) {n = suc b} (omega (arith, leaders-count code)) in
-          omega (arith, q, e)
-
   module _ (b start end : ℕ) (h : b < blockCount code) (sp : Spans code b start end) where
     -- what follows a block that does not end is an instruction
     pub behind-inside : instructionAt code (end - 1) .ends ≡ false → end < length code
@@ -144,16 +92,4 @@ module _ (code : List Instruction) (parameter : ℕ → Bool) (slots : ℕ) (ch 
 
     -- control goes to leaders
     pub next-leads : (t : ℕ) → List·Memᴰ t (successors code (end - 1)) → (leader code t ≡ true) × (t < length code)
-    next-leads t m =
-        let k : end - start ≡ suc (end - 1 - start) = omega (arith, sp .some) in
-        let j : start + (end - 1 - start) ≡ end - 1 = omega (arith, sp .some) in
-        let cut : body code b ≡ range start (end - 1 - start) ++ ((end - 1) ∷ []) =
-        sp .is ∙ ap (range start) k ∙ range-snoc start (end - 1 - start) ∙ ap (λ (i : ℕ). range start (end - 1 - start) ++ (i ∷ [])) j in
-        let z = basic-blocks code parameter slots ch .leaves-of b (range start (end - 1 - start)) (end - 1) cut t m in
-        first-leads t (z .0) (successors-below code parameter slots ch b (z .0) (z .1)) (z .2)
-      where
-        -- the first instruction of a block
-        first-leads : (t c : ℕ) → c < blockCount code → t ≡ headOr 0 (body code c) → (leader code t ≡ true) × (t < length code)
-        first-leads t c below q =
-            let e : t ≡ getD (leaders code) c (length code) = q ∙ sym (List·getD-map (headOr 0) (blocks code) c (length code ∷ [])) in
-            (ap (leader code) e ∙ start-leads code c below, omega (arith, e, start-below code c below))
+    next-leads t m = starts-lead code t (last-target code parameter slots ch b (end - 1) (sp .last) t m)

@@ -1,6 +1,6 @@
 -- The words of a block's edges after they are put: the count, where each leads, and what stays. Assumes nothing.
 use mathlib.Core.Logic.{_≢_}
-use mathlib.Core.Path.{_≡_, refl, ap, _∙_}
+use mathlib.Core.Path.{_≡_, refl, _∙_}
 use mathlib.Core.List.{List, [], _∷_}
 use Prim.Native.Nat.{ℕ, zero, suc, _+_, _*_, _≤_, _<_}
 use native.Mathlib.Omega.{arith}
@@ -9,7 +9,7 @@ use Rattle.memory.specs.Cells.{Mem, cell, word, store}
 use Rattle.memory.specs.Names.{blockOfCell, successorCell, successorCountCell}
 use Rattle.memory.specs.Scratch.{scratchWidths}
 use Rattle.memory.specs.declared.layout.Layout.{Layout}
-use Rattle.memory.proofs.CellLaws.{Sized, sized-store, cell-store-other, word-cell-other, word-store-other}
+use Rattle.memory.proofs.CellLaws.{Sized, same-word, sized-store, cell-store-other, word-cell-other, word-store-other}
 use Rattle.memory.proofs.ScratchLaws.{word-put, place-blocks, place-edges}
 use Rattle.blocks.specs.Words.{countedEdges, linkEdges, putEdges}
 
@@ -130,7 +130,7 @@ module _ (y : Layout) (b : ℕ) (ts : List ℕ) (m : Mem) (z : Sized (scratchWid
   counts-stay : (d : ℕ) → word (putEdges b ts m) successorCountCell d ≡ word (countedEdges b (length ts) m) successorCountCell d
   unfolding putEdges
   counts-stay d =
-      ap (λ (ws : List ℕ). getD ws d 0) (link-other (2 * b) ts (countedEdges b (length ts) m) successorCountCell (λ w. omega arith))
+      same-word d (link-other (2 * b) ts (countedEdges b (length ts) m) successorCountCell (λ w. omega arith))
 
   pub edges-counted : word (putEdges b ts m) successorCountCell b ≡ length ts
   edges-counted = counts-stay b ∙ counted-here y b (length ts) m z h
@@ -143,8 +143,7 @@ module _ (y : Layout) (b : ℕ) (ts : List ℕ) (m : Mem) (z : Sized (scratchWid
   unfolding putEdges
   edges-lead k l =
       link-at y (2 * b) ts (countedEdges b (length ts) m) k (counted-sized y b (length ts) m z h) (omega arith) l
-      ∙ ap (λ (ws : List ℕ). getD ws (getD ts k 0) 0)
-      (counted-other b (length ts) m blockOfCell (λ w. omega arith) (λ w. omega arith))
+      ∙ same-word (getD ts k 0) (counted-other b (length ts) m blockOfCell (λ w. omega arith) (λ w. omega arith))
 
   pub edges-unused : (k : ℕ) → k < 2 → length ts ≤ k → word (putEdges b ts m) successorCell (2 * b + k) ≡ 0
   unfolding putEdges

@@ -1,6 +1,6 @@
 -- What is in a block's two rows: what its instructions use and what they define. Assumes nothing.
 use mathlib.Core.Path.{_≡_, refl, sym, ap, ap₂, _∙_}
-use mathlib.Core.Bool.{Bool, true, false, not, _&&_, _||_, or-false}
+use mathlib.Core.Bool.{Bool, true, false, not, _&&_, _||_, and-false, or-false, or-true, or-comm, or-assoc}
 use mathlib.Core.List.{List, [], _∷_}
 use Prim.Native.Nat.{ℕ, _*_, _/_, _<_}
 use native.Mathlib.Decide.{ℕ-discrete}
@@ -9,7 +9,7 @@ use borrow.Author.Tests.{eq-eqb, ne-eqb}
 use lib.Dec.{eqb}
 use lib.ListN.{length, replicate, length-replicate}
 use Rattle.bitset.specs.Sets.{member, inserted}
-use Rattle.bitset.proofs.SetLaws.{length-inserted, member-inserted, member-zero}
+use Rattle.bitset.proofs.SetLaws.{same-either-way, length-inserted, member-inserted, member-zero}
 use Rattle.dataflow.specs.Lists.{pick, elem}
 use Rattle.dataflow.specs.Blocks.{uses, defines}
 use Rattle.dataflow.specs.Code.{Instruction, instructionAt, program}
@@ -26,18 +26,9 @@ member-all [] ws w k q a = sym (or-false (member ws k))
 member-all (x ∷ l) ws w k q a =
     let h = a .0 in
     member-all l (inserted ws x) w k (length-inserted ws x ∙ q) (a .1)
-    ∙ ap (λ (t : Bool). t || elem k l) (member-inserted ws x (omega arith) k)
-    ∙ go (ℕ-discrete k x)
-  where
-    or-swap : (p t e : Bool) → ((p || t) || e) ≡ (t || (p || e))
-    or-swap true true e = refl
-    or-swap true false e = refl
-    or-swap false true e = refl
-    or-swap false false e = refl
-
-    go : Dec (k ≡ x) → ((eqb x k || member ws k) || elem k l) ≡ (member ws k || (eqb k x || elem k l))
-    go (yes e) = rw (eq-eqb x k (sym e), eq-eqb k x e) (or-swap true (member ws k) (elem k l))
-    go (no e) = rw (ne-eqb x k (λ q. e (sym q)), ne-eqb k x e) (or-swap false (member ws k) (elem k l))
+    ∙ ap (λ (t : Bool). t || elem k l) (member-inserted ws x (omega arith) k
+    ∙ ap (λ (t : Bool). t || member ws k) (same-either-way x k) ∙ or-comm (eqb k x) (member ws k))
+    ∙ or-assoc (member ws k) (eqb k x) (elem k l)
 
 -- ---- the inputs that are not defined put in
 
@@ -56,20 +47,12 @@ member-one : (d : List ℕ) (x : ℕ) (u : List ℕ) (k : ℕ) → x / 64 < leng
     → member (one d x u) k ≡ (member u k || (not (member d k) && eqb k x))
 member-one d x u k h = go (member d x) refl (ℕ-discrete k x)
   where
-    or-true′ : (t : Bool) → (t || true) ≡ true
-    or-true′ true = refl
-    or-true′ false = refl
-
-    and-false : (t : Bool) → (t && false) ≡ false
-    and-false true = refl
-    and-false false = refl
-
     go : (t : Bool) → member d x ≡ t → Dec (k ≡ x) → member (pick t u (inserted u x)) k ≡ (member u k || (not (member d k) && eqb k x))
     go true e (yes q) = let f : member d k ≡ true = ap (member d) q ∙ e in rw f (sym (or-false (member u k)))
     go true e (no q) = rw (ne-eqb k x q, and-false (not (member d k))) (sym (or-false (member u k)))
     go false e (yes q) =
         let f : member d k ≡ false = ap (member d) q ∙ e in
-        member-inserted u x h k ∙ rw (f, eq-eqb x k (sym q), eq-eqb k x q) (sym (or-true′ (member u k)))
+        member-inserted u x h k ∙ rw (f, eq-eqb x k (sym q), eq-eqb k x q) (sym (or-true (member u k)))
     go false e (no q) =
         member-inserted u x h k
         ∙ rw (ne-eqb x k (λ w. q (sym w)), ne-eqb k x q, and-false (not (member d k))) (sym (or-false (member u k)))

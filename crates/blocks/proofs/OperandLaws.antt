@@ -1,4 +1,4 @@
--- The operands of an instruction that are read one by one: at most two targets, few inputs, and the one that is read. Assumes nothing.
+-- The operands of an instruction that are read one by one: at most two targets, few inputs, and the output that is read. Assumes nothing.
 use mathlib.Core.Path.{_≡_, refl, sym, ap, subst, _∙_}
 use mathlib.Core.Bool.{Bool, true, false}
 use mathlib.Core.List.{List, [], _∷_}
@@ -13,7 +13,7 @@ use Rattle.operands.specs.Places.{Place, one, optional, rest, absent, gathered}
 use Rattle.operands.specs.Patterns.{S, Sopt, roleAt}
 use Rattle.operands.specs.Variants.{variants, jumpTargets}
 use Rattle.operands.specs.Operands.{bySource, singlePlace, placesFrom, inputsOf, targetsOf}
-use Rattle.operands.specs.Instructions.{Readable, valuesOf, nth, valueOf, slotIn}
+use Rattle.operands.specs.Instructions.{Readable, valuesOf, valueOf, slotIn}
 use Rattle.operands.specs.declared.slots.Slot.{Slot}
 use Rattle.operands.specs.declared.instruction.Instruction.{Instruction}
 use Rattle.operands.specs.declared.instruction.Value.the-variants as values
@@ -24,7 +24,6 @@ use Rattle.operands.proofs.InstructionLaws.{view-count}
 use Rattle.operands.proofs.PlaceLaws.{gathered-append}
 use Rattle.bitset.specs.Below.{AllBelow}
 use Rattle.script.specs.Script.{listOf}
-use Rattle.leaders.proofs.MarkLaws.{nth-there}
 
 -- ---- at most two targets
 
@@ -101,19 +100,7 @@ places-few a b k j (suc n) v =
 pub inputs-few : (s : List ℕ) (i : Instruction) → Readable s i → length (inputsOf (i .pattern .kind) (valuesOf s i)) ≤ i .fields + 4
 inputs-few s i r = omega (arith, view-count s i r, places-few S Sopt (i .pattern .kind) 0 4 (valuesOf s i))
 
--- ---- the slot that is read
-
--- the k-th input, as it is read
-module _ (o : SlotOperand) (l : List ℕ) (k : ℕ) (e : slotIn o ≡ nth l k) (h : k < length l) where
-  pub slot-there : (t : Slot) → o ≡ slots.Is t → t .0 ≡ getD l k 0
-  slot-there t q =
-      let f : values.Is (t .0) ≡ values.Is (getD l k 0) = ap slotIn (sym q) ∙ e ∙ nth-there l k h in
-      cc
-
-  pub slot-missing : o ≡ slots.Absent → ⊥
-  slot-missing q =
-      let f : values.Absent ≡ values.Is (getD l k 0) = ap slotIn (sym q) ∙ e ∙ nth-there l k h in
-      let z : _≡_ {A = ℕ} 0 1 = cc in omega arith
+-- ---- the output
 
 -- the output, as it is read
 module _ (o : SlotOperand) (v : Option ℕ) (e : slotIn o ≡ valueOf v) where

@@ -1,26 +1,26 @@
 -- The instructions of a block one by one: their charges, the costs noted, and the two rows. Assumes nothing.
 use mathlib.Core.Logic.{_≢_}
 use mathlib.Core.Path.{_≡_, refl, sym, ap, ap₂, _∙_}
-use mathlib.Core.List.{List, [], _∷_, _++_, map}
+use mathlib.Core.List.{List, [], _∷_, _++_, map, map-append}
 use Prim.Native.Nat.{ℕ, suc, _+_, _*_, _-_, _≤_, _<_}
 use native.Mathlib.Decide.{ℕ-discrete}
 use native.Mathlib.Omega.{arith}
-use lib.ListN.{length, getD, length-set}
+use lib.ListN.{length, length-set}
 use Rattle.dataflow.specs.Lists.{range}
-use Rattle.dataflow.proofs.Lists.{range-append}
+use Rattle.dataflow.proofs.Lists.{range-append, range-snoc}
 use Rattle.dataflow.specs.Code.{Instruction, instructionAt}
 use Rattle.memory.specs.Cells.{Mem, cell, word, store, storeCell}
 use Rattle.memory.specs.Names.{offsetCell, costCell, usesRow, definesRow}
 use Rattle.memory.specs.Scratch.{scratchWidths, scratchCells}
 use Rattle.memory.specs.declared.layout.Layout.{Layout}
-use Rattle.memory.proofs.CellLaws.{Sized, sized-store, cell-store-same, cell-store-other, word-store-other}
+use Rattle.memory.proofs.CellLaws.{Sized, same-word, sized-store, cell-store-same, cell-store-other, word-store-other}
 use Rattle.memory.proofs.ScratchLaws.{word-put, scratch-count, place-instructions}
 use Rattle.budget.specs.declared.FlowBudget.{FlowBudget}
 use Rattle.budget.specs.declared.Limits.{Limits}
 use Rattle.budget.specs.declared.Charged.{Charged}
 use Rattle.budget.specs.declared.Charged.the-variants.{Ok, Over}
-use Rattle.budget.specs.Budget.{charged, andCharged}
-use Rattle.budget.proofs.BudgetLaws.{charged-none, charged-cons, charged-append}
+use Rattle.budget.specs.Budget.{charged}
+use Rattle.budget.proofs.BudgetLaws.{charged-none, met-then, over-then}
 use Rattle.operands.specs.Operands.{inputsOf, outputOf}
 use Rattle.operands.specs.Instructions.{Readable, valuesOf}
 use Rattle.sheet.specs.declared.script.Script.{Script}
@@ -32,18 +32,12 @@ use Rattle.instructions.specs.Sets.{insertedAll}
 use Rattle.instructions.specs.Sound.{codeOffset}
 use Rattle.script.specs.Script.{listOf, flowCode}
 use Rattle.leaders.proofs.LeaderLaws.{readable-at}
-use Rattle.leaders.proofs.NumberLaws.{range-snoc}
 use Rattle.blocks.specs.Rows.{usedIn, Transfer, transferOne, transferAll, costOf, rowsAt, Transferred}
 use Rattle.blocks.specs.Blocks.{Ready}
 use Rattle.blocks.proofs.OperandLaws.{inputs-few}
 use Rattle.blocks.proofs.ReadLaws.{stands-at, flow-inputs, flow-outputs, inputs-at, output-at}
 
 -- ---- lists
-
--- f of two lists
-pub map-append : {A B : Type 0} (f : A → B) (a b : List A) → map f (a ++ b) ≡ map f a ++ map f b
-map-append f [] b = refl
-map-append f (x ∷ a) b = ap (λ (l : List _). f x ∷ l) (map-append f a b)
 
 -- the numbers from start to i, and one more
 pub range-more : (start i : ℕ) → start ≤ i → range start (i + 1 - start) ≡ range start (i - start) ++ (i ∷ [])
@@ -67,18 +61,6 @@ pub transfer-append : (code : List Instruction) (a b : List ℕ) (r : Transfer)
 unfolding transferAll
 transfer-append code [] b r = refl
 transfer-append code (i ∷ a) b r = transfer-append code a b (transferOne (instructionAt code i) r)
-
--- ---- charges met so far, and one more
-
-module _ (l : Limits) (b : FlowBudget) (cs : List ℕ) (left : FlowBudget) (e : charged l b cs ≡ Ok left) where
-  -- what follows is charged to what is left
-  pub charged-on : (ds : List ℕ) → charged l b (cs ++ ds) ≡ charged l left ds
-  charged-on ds = charged-append l b cs ds ∙ ap (λ (r : Charged). andCharged r (λ z. charged l z ds)) e
-
-  -- one that crosses the limit decides
-  pub charged-crossed : (c : ℕ) (ds : List ℕ) (x : FlowBudget) → charged l left (c ∷ []) ≡ Over x → charged l b (cs ++ (c ∷ ds)) ≡ Over x
-  charged-crossed c ds x f =
-      charged-on (c ∷ ds) ∙ charged-cons l left c ds ∙ ap (λ (r : Charged). andCharged r (λ z. charged l z ds)) f
 
 -- ---- after the instructions from start to pc
 
@@ -126,8 +108,8 @@ module _ (code : List Instruction) (l : Limits) (budget : FlowBudget) (b start :
     transferred-over end x h f = record {
       charges = f ∙ sym (ap (λ (ns : List ℕ). charged l budget (map (costOf code) ns)) (range-at start pc end a h)
           ∙ ap (charged l budget) (map-append (costOf code) (range start (pc - start)) (pc ∷ range (suc pc) (end - suc pc)))
-          ∙ charged-crossed l budget _ left (g .charges) (costOf code pc) (map (costOf code) (range (suc pc) (end - suc pc))) x
-          (ap (λ (k : ℕ). charged l left (k ∷ [])) (sym cost-is) ∙ sym c ∙ f));
+          ∙ met-then l budget _ _ (g .charges)
+          ∙ over-then l left (costOf code pc ∷ []) _ (ap (λ (k : ℕ). charged l left (k ∷ [])) (sym cost-is) ∙ sym c ∙ f));
       rows = λ y q. let o : _≡_ {A = ℕ} 0 1 = cc in absurd (omega arith);
       costs = λ y q i. let o : _≡_ {A = ℕ} 0 1 = cc in absurd (omega arith);
       other-costs = λ i h. ap (λ (w : Mem). word w costCell i) e₁ ∙ word-store-other m′ costCell pc (n + 1) costCell i (λ _ q. omega arith)
@@ -172,7 +154,7 @@ module _ (code : List Instruction) (l : Limits) (budget : FlowBudget) (b start :
 
       cost₃ : (i : ℕ) → word m₃ costCell i ≡ word m₁ costCell i
       cost₃ i =
-          ap (λ (ws : List ℕ). getD ws i 0) (cell₃ costCell (λ w. omega arith) ∙ cell₂ costCell (λ w. omega arith))
+          same-word i (cell₃ costCell (λ w. omega arith) ∙ cell₂ costCell (λ w. omega arith))
 
       cost-at : (i : ℕ) → start ≤ i → i < pc + 1 → Dec (i ≡ pc) → word m₁ costCell i ≡ costOf code i
       cost-at i lo hi (yes w) =
@@ -185,7 +167,7 @@ module _ (code : List Instruction) (l : Limits) (budget : FlowBudget) (b start :
       transferring-more = record {
         charges = ap (λ (ns : List ℕ). charged l budget (map (costOf code) ns)) (range-more start pc a)
             ∙ ap (charged l budget) (map-append (costOf code) (range start (pc - start)) (pc ∷ []))
-            ∙ charged-on l budget _ left (g .charges) (costOf code pc ∷ [])
+            ∙ met-then l budget _ (costOf code pc ∷ []) (g .charges)
             ∙ ap (λ (k : ℕ). charged l left (k ∷ [])) (sym cost-is) ∙ sym c ∙ f;
         rows = rows-more ∙ ap (transferOne (instructionAt code pc)) (g .rows)
             ∙ sym (ap (λ (ns : List ℕ). transferAll code ns (rowsAt m b)) (range-more start pc a)
@@ -213,7 +195,7 @@ module _ (s : List ℕ) (x : Script) (y : Layout) (m m′ : Mem) (ok : Ready s x
 
   -- the offset that is noted is the instruction's
   offset-is : at ≡ codeOffset s x i
-  offset-is = e ∙ ap (λ (ws : List ℕ). getD ws i 0) same ∙ ok .index .offsets i there
+  offset-is = e ∙ same-word i same ∙ ok .index .offsets i there
 
   pub noted-stands : Stands s at
   noted-stands = stands-at s x (ok .sound) i at offset-is there

@@ -15,13 +15,12 @@ use Rattle.memory.specs.Names.{offsetCell, costCell, startCell, endCell, stateR
 use Rattle.memory.specs.Scratch.{scratch, Room}
 use Rattle.memory.specs.Sets.{sets, SetsRoom}
 use Rattle.memory.specs.declared.layout.Layout.{Layout}
-use Rattle.memory.proofs.CellLaws.{cell-store-same, cell-store-other}
+use Rattle.memory.proofs.CellLaws.{cell-store-same, cell-store-other, same-word}
 use Rattle.memory.proofs.ScratchLaws.{scratch-length, row-words}
 use Rattle.memory.proofs.SetsLaws.{sets-row-words}
 use Rattle.sheet.specs.declared.script.Script.{Script}
 use Rattle.sheet.specs.Decode.{partsOf}
 use Rattle.script.specs.Script.{parameterIn}
-use Rattle.edges.proofs.EdgeLaws.{same-word}
 use Rattle.edges.proofs.FlowLaws.{Still, flows-still}
 use Rattle.solver.specs.declared.direction.Direction.{Direction}
 use Rattle.solver.specs.declared.direction.Direction.the-variants.{Initialization, Liveness}
@@ -56,7 +55,7 @@ still-running {y} h = record {
 module _ {y : Layout} {m m′ : Mem} (h : RunningOnly y m m′) where
   -- a word of the cells before the rows
   pub word-kept : (k i : ℕ) → k < 10 → word m′ k i ≡ word m k i
-  word-kept k i lt = same-word m m′ k i (h .others k (λ e. omega arith) (λ e. omega arith))
+  word-kept k i lt = same-word i (h .others k (λ e. omega arith) (λ e. omega arith))
 
   -- the instructions can be read as before
   pub coded-kept : {s : List ℕ} {x : Script} → Coded s x y m → Coded s x y m′

@@ -8,7 +8,7 @@ use Prim.Native.Nat.{ℕ, zero, suc, _+_, _≤_, _<_}
 use native.Mathlib.Omega.{arith}
 use native.Mathlib.Decide.{ℕ-discrete}
 use native.Mathlib.Nat.{add-suc, suc-add, zero-add, le-refl}
-use lib.ListN.{length, getD, List·getD-map, List·getD-eq-default, length-map}
+use lib.ListN.{length, getD, List·getD-map, List·getD-eq-default}
 use lib.Dec.{eqb}
 use Rattle.dataflow.specs.Paths.{Path, stop, step, Reached}
 use Rattle.dataflow.specs.Analyses.{initialization}
@@ -20,7 +20,7 @@ use Rattle.dataflow.specs.Checked.{Checked}
 use Rattle.dataflow.proofs.Bools.{or-no-left, eqb-is, eqb-self}
 use Rattle.dataflow.proofs.Lists.{All, all-getD, mem-getD, mem-elem, some-to}
 use Rattle.dataflow.proofs.BlockPaths.{entry-place, reached-point}
-use Rattle.dataflow.proofs.Leaders.{leader-starts, block-place-unique}
+use Rattle.dataflow.proofs.Leaders.{leaders-count, leader-starts, block-place-unique}
 
 module _ (code : List Instruction) where
   -- inside a block control goes to the next number and nowhere else
@@ -155,6 +155,10 @@ module _ (code : List Instruction) where
         go true e m = leader-starts code t (ch .targets-below l t m) (is-target t m)
         go false e m = Memᴰ·cast (List·Memᴰ·eq-of-singleton m) (after e (rw q at (f .last)))
 
+    -- whichever block it is
+    pub last-target : (b l : ℕ) → lastOr 0 (body code b) ≡ l → (t : ℕ) → List·Memᴰ t (successors code l) → List·Memᴰ t (leaders code)
+    last-target b = target b (which b)
+
     at-end : (b : ℕ) (u : List ℕ) (i : ℕ) → body code b ≡ u ++ (i ∷ []) → lastOr 0 (body code b) ≡ i
     at-end b u i e = ap (lastOr 0) e ∙ last-snoc 0 u i
 
@@ -162,7 +166,7 @@ module _ (code : List Instruction) where
     successors-below b c m = go (Memᴰ·of-map _ (successors code (lastOr 0 (body code b))) m)
       where
         go : (x : ℕ) × List·Memᴰ x (successors code (lastOr 0 (body code b))) × (indexOf x (leaders code) ≡ c) → c < length (blocks code)
-        go z = omega (arith, z .2, index-below (z .0) (leaders code) (target b (which b) _ refl (z .0) (z .1)), length-map (blocks code) (headOr 0))
+        go z = omega (arith, z .2, index-below (z .0) (leaders code) (last-target b _ refl (z .0) (z .1)), leaders-count code)
 
     pub blocks-some : 0 < length (blocks code)
     blocks-some = go (length code) refl
@@ -209,7 +213,7 @@ module _ (code : List Instruction) where
         to-first : (b : ℕ) (u : List ℕ) (i : ℕ) → body code b ≡ u ++ (i ∷ []) → (k : ℕ) → List·Memᴰ k (successors code i)
             → headOr 0 (body code (indexOf k (leaders code))) ≡ k
         to-first b u i e k m = sym (List·getD-map (headOr 0) (blocks code) (indexOf k (leaders code)) (length code ∷ []))
-            ∙ index-of k (leaders code) _ (target b (which b) i (at-end b u i e) k m)
+            ∙ index-of k (leaders code) _ (last-target b i (at-end b u i e) k m)
 
         leaves : (b : ℕ) (u : List ℕ) (i : ℕ) → body code b ≡ u ++ (i ∷ []) → (c : ℕ) → List·Memᴰ c (blockSuccessors code b)
             → List·Memᴰ (headOr 0 (body code c)) (successors code i)

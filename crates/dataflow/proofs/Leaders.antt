@@ -8,11 +8,11 @@ use Prim.Native.Nat.{ℕ, zero, suc, _+_, _≤_, _<_}
 use native.Mathlib.Omega.{arith}
 use native.Mathlib.Decide.{ℕ-discrete, decLt}
 use native.Mathlib.Nat.{add-zero, add-suc, suc-add, zero-add}
-use lib.ListN.{length, getD}
+use lib.ListN.{length, getD, length-map, List·getD-eq-default}
 use Rattle.dataflow.specs.Lists.{pick, range, keep}
 use Rattle.dataflow.specs.Blocks.{pointsOf}
 use Rattle.dataflow.specs.Code.{Instruction, leader, prepend, headOr, blocksFrom, blocks, leaders, body, blockGraph}
-use Rattle.dataflow.proofs.Lists.{mem-range, range-append}
+use Rattle.dataflow.proofs.Lists.{mem-range, range-append, range-bounds, keep-mem, mem-getD}
 
 -- ── The starts ──
 
@@ -25,17 +25,6 @@ mem-keep f (y ∷ l) x m e = go (f y) refl (List·Memᴰ·cases-cons m) (λ m′
     go true q (inr z) below = List·Memᴰ·tail (below z)
     go false q (inl z) below = absurd (mathlib.Core.Bool.true≢false (sym e ∙ (ap f z ∙ q)))
     go false q (inr z) below = below z
-
--- of the numbers below n that are kept none is above n
-keep-below : (f : ℕ → Bool) (k m n : ℕ) → k + m ≤ n → (i : ℕ) → getD (keep f (range k m)) i n ≤ n
-keep-below f k zero n h i = omega arith
-keep-below f k (suc m) n h i = go (f k) i (keep-below f (suc k) m n (omega arith))
-  where
-    go : (t : Bool) (i : ℕ) → ((j : ℕ) → getD (keep f (range (suc k) m)) j n ≤ n)
-        → getD (pick t (k ∷ keep f (range (suc k) m)) (keep f (range (suc k) m))) i n ≤ n
-    go false i r = r i
-    go true zero r = omega arith
-    go true (suc i) r = r i
 
 module _ (code : List Instruction) where
   starts-from : (k m : ℕ) → map (headOr 0) (blocksFrom code k (suc m)) ≡ k ∷ keep (leader code) (range (suc k) m)
@@ -61,15 +50,27 @@ module _ (code : List Instruction) where
       go zero = refl
       go (suc m) = starts-from 0 m
 
-  -- so every leader starts a block
+  -- there are as many as blocks
+  pub leaders-count : length (leaders code) ≡ length (blocks code)
+  leaders-count = length-map (blocks code) (headOr 0)
+
+  -- every leader starts a block
   pub leader-starts : (t : ℕ) → t < length code → leader code t ≡ true → List·Memᴰ t (leaders code)
   leader-starts t lt e = rw leaders-are (mem-keep (leader code) (range 0 (length code)) t (rw (zero-add t) at (mem-range 0 (length code) t lt)) e)
 
+  -- and every block starts at one
+  pub starts-lead : (t : ℕ) → List·Memᴰ t (leaders code) → (leader code t ≡ true) × (t < length code)
+  starts-lead t m =
+      let z = keep-mem (leader code) (range 0 (length code)) t (rw leaders-are at m) in
+      (z .1, omega (arith, range-bounds 0 (length code) t (z .0) .1))
+
   -- none is behind the end of the code
   pub leaders-below : (i : ℕ) → getD (leaders code) i (length code) ≤ length code
-  leaders-below i =
-      subst (λ (l : List ℕ). getD l i (length code) ≤ length code) (sym leaders-are)
-      (keep-below (leader code) 0 (length code) (length code) (omega arith) i)
+  leaders-below i = go (decLt i (length (leaders code)))
+    where
+      go : Dec (i < length (leaders code)) → getD (leaders code) i (length code) ≤ length code
+      go (yes l) = omega (arith, starts-lead _ (mem-getD (leaders code) i (length code) l) .1)
+      go (no l) = omega (arith, List·getD-eq-default (leaders code) (length code) {n = i} (omega arith))
 
 -- ── The blocks follow one another ──
 

@@ -7,6 +7,7 @@ use mathlib.Core.Logic.{_⊎_, inl, inr}
 use Prim.Native.Nat.{ℕ, zero, suc, _+_, _≤_, _<_}
 use native.Mathlib.Omega.{arith}
 use native.Mathlib.Nat.{add-zero, zero-add}
+use native.Mathlib.Numerals.{add-one}
 use lib.ListN.{length, getD, set, replicate, length-append}
 use lib.Dec.{eqb}
 use Rattle.dataflow.specs.Lists.{pick, tabulate, range, sum, every, some, keep, elem, NoDup}
@@ -69,6 +70,19 @@ range-length k n = length-tabulate k n (λ j. j)
 pub range-append : (k m n : ℕ) → range k (m + n) ≡ range k m ++ range (k + m) n
 range-append k m n = tabulate-append k m n (λ i. i)
 
+-- with one more
+pub range-snoc : (k n : ℕ) → range k (suc n) ≡ range k n ++ ((k + n) ∷ [])
+range-snoc k n = ap (range k) (sym (add-one n)) ∙ range-append k n 1
+
+-- the numbers of a range lie in it
+pub range-bounds : (k n y : ℕ) → List·Memᴰ y (range k n) → (k ≤ y) × (y < k + n)
+range-bounds k zero y m = absurd (List·Memᴰ·not-nil m)
+range-bounds k (suc n) y m = go (List·Memᴰ·cases-cons m) (λ m′. range-bounds (suc k) n y m′)
+  where
+    go : (y ≡ k) ⊎ List·Memᴰ y (range (suc k) n) → (List·Memᴰ y (range (suc k) n) → (suc k ≤ y) × (y < suc k + n)) → (k ≤ y) × (y < k + suc n)
+    go (inl e) below = (omega (arith, e), omega (arith, e))
+    go (inr m′) below = let z = below m′ in (omega (arith, z .0), omega (arith, z .1))
+
 -- ── Lists seen through a function ──
 
 module _ {A B : Type 0} (f : A → B) where
@@ -101,6 +115,21 @@ keep-append f (x ∷ l) m = go (f x) (keep-append f l m)
 -- so many are kept of two lists
 pub keep-both : (f : ℕ → Bool) (l m : List ℕ) → length (keep f (l ++ m)) ≡ length (keep f l) + length (keep f m)
 keep-both f l m = ap length (keep-append f l m) ∙ length-append (keep f l) (keep f m)
+
+-- what is kept stands in the list and passes the test
+pub keep-mem : (f : ℕ → Bool) (l : List ℕ) (y : ℕ) → List·Memᴰ y (keep f l) → List·Memᴰ y l × (f y ≡ true)
+keep-mem f [] y m = absurd (List·Memᴰ·not-nil m)
+keep-mem f (x ∷ l) y m = go (f x) refl m (λ m′. let z = keep-mem f l y m′ in (List·Memᴰ·tail (z .0), z .1))
+  where
+    here : f x ≡ true → (y ≡ x) ⊎ List·Memᴰ y (keep f l) → (List·Memᴰ y (keep f l) → List·Memᴰ y (x ∷ l) × (f y ≡ true))
+        → List·Memᴰ y (x ∷ l) × (f y ≡ true)
+    here e (inl q) below = (List·Memᴰ·head q, ap f q ∙ e)
+    here e (inr m′) below = below m′
+
+    go : (t : Bool) → f x ≡ t → List·Memᴰ y (pick t (x ∷ keep f l) (keep f l)) → (List·Memᴰ y (keep f l) → List·Memᴰ y (x ∷ l) × (f y ≡ true))
+        → List·Memᴰ y (x ∷ l) × (f y ≡ true)
+    go true e m below = here e (List·Memᴰ·cases-cons m) below
+    go false e m below = below m
 
 -- no more are kept than there are
 pub keep-few : (f : ℕ → Bool) (l : List ℕ) → length (keep f l) ≤ length l
@@ -183,6 +212,15 @@ pub mem-getD : {A : Type 0} (l : List A) (i : ℕ) (d : A) → i < length l → 
 mem-getD [] i d lt = absurd (omega arith)
 mem-getD (x ∷ l) zero d lt = List·Memᴰ·head refl
 mem-getD (x ∷ l) (suc i) d lt = List·Memᴰ·tail (mem-getD l i d (omega arith))
+
+-- what stands in a list has a place there
+pub mem-place : {A : Type 0} (l : List A) (a d : A) → List·Memᴰ a l → (i : ℕ) × (i < length l) × (getD l i d ≡ a)
+mem-place [] a d m = absurd (List·Memᴰ·not-nil m)
+mem-place (x ∷ l) a d m = go (List·Memᴰ·cases-cons m) (λ m′. mem-place l a d m′)
+  where
+    go : (a ≡ x) ⊎ List·Memᴰ a l → (List·Memᴰ a l → (i : ℕ) × (i < length l) × (getD l i d ≡ a)) → (i : ℕ) × (i < suc (length l)) × (getD (x ∷ l) i d ≡ a)
+    go (inl e) below = (0, omega arith, sym e)
+    go (inr m′) below = let z = below m′ in (suc (z .0), omega (arith, z .1), z .2)
 
 pub getD-same : {A : Type 0} (n i : ℕ) (d : A) → getD (replicate n d) i d ≡ d
 getD-same zero i d = refl

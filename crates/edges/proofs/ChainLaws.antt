@@ -18,13 +18,13 @@ use Rattle.memory.specs.Cells.{Mem, cell, word, store}
 use Rattle.memory.specs.Names.{firstEdgeCell, nextEdgeCell, predecessorCountCell, successorCell, successorCountCell}
 use Rattle.memory.specs.Scratch.{scratchWidths}
 use Rattle.memory.specs.declared.layout.Layout.{Layout}
-use Rattle.memory.proofs.CellLaws.{Sized, sized-store, word-store-other}
+use Rattle.memory.proofs.CellLaws.{Sized, sized-store, word-store-other, same-word}
 use Rattle.memory.proofs.ScratchLaws.{word-put, place-blocks, place-edges}
 use Rattle.edges.specs.Edges.{Holds, Cleared}
 use Rattle.bitset.specs.Below.{AllBelow}
 use Rattle.edges.specs.Predecessors.{chainFrom, edgesInto, Chained}
 use Rattle.edges.specs.Chains.{linkedIn, OnlyChains, AllFrom, Chains, predecessorsSince, ChainedSince}
-use Rattle.edges.proofs.EdgeLaws.{same-word, cell-kept, holds-kept}
+use Rattle.edges.proofs.EdgeLaws.{cell-kept, holds-kept}
 
 -- ---- only the three cells of the chains change
 pub only-more : {m m′ m″ : Mem} → OnlyChains m m′ → OnlyChains m′ m″ → OnlyChains m m″
@@ -57,9 +57,9 @@ module _ (m m₁ m₂ : Mem) (edge first to : ℕ) where
   pub count-still : m₁ ≡ store m nextEdgeCell edge first → m₂ ≡ store m₁ firstEdgeCell to edge → (b : ℕ)
       → word m₂ predecessorCountCell b ≡ word m predecessorCountCell b
   count-still e₁ e₂ b =
-      same-word m₁ m₂ predecessorCountCell b
+      same-word b
       (ap (λ (x : Mem). cell x predecessorCountCell) e₂ ∙ cell-kept m₁ firstEdgeCell to edge _ (λ q. omega arith))
-      ∙ same-word m m₁ predecessorCountCell b
+      ∙ same-word b
       (ap (λ (x : Mem). cell x predecessorCountCell) e₁ ∙ cell-kept m nextEdgeCell edge first _ (λ q. omega arith))
 
   pub linked-from : {m₃ : Mem} {count : ℕ} → first ≡ word m firstEdgeCell to → m₁ ≡ store m nextEdgeCell edge first
@@ -254,7 +254,7 @@ module _ (next : ℕ → List ℕ) {y : Layout} {block : ℕ} (lt : block < y .b
 -- the count of the block's edges is still the graph's, and the next edge leads to a block
 pub partly-few : {m m′ : Mem} (block : ℕ) {k : ℕ} → OnlyChains m m′ → k ≤ word m successorCountCell block → k ≤ word m′ successorCountCell block
 partly-few {m} {m′} block f h =
-    omega (arith, same-word m m′ successorCountCell block (f .others successorCountCell (λ q. omega arith) (λ q. omega arith) (λ q. omega arith)))
+    omega (arith, same-word block (f .others successorCountCell (λ q. omega arith) (λ q. omega arith) (λ q. omega arith)))
 
 pub partly-to : (next : ℕ → List ℕ) {y : Layout} {block : ℕ} → block < y .blocks → {m m′ : Mem} → Holds next y m → (k : ℕ) → 0 < k
     → k ≤ word m successorCountCell block → OnlyChains m m′ → {to : ℕ} → to ≡ word m′ successorCell (2 * block + (k - 1)) → to < y .blocks

@@ -10,7 +10,7 @@ use Rattle.memory.specs.Cells.{Mem, cell, word, store, storeCell}
 use Rattle.memory.specs.Names.{flag, successorCell, successorCountCell}
 use Rattle.memory.specs.Scratch.{scratchWidths}
 use Rattle.memory.specs.declared.layout.Layout.{Layout}
-use Rattle.memory.proofs.CellLaws.{Sized, word-cell-same, cell-store-other}
+use Rattle.memory.proofs.CellLaws.{Sized, same-word, word-cell-same, cell-store-other}
 use Rattle.memory.proofs.ScratchLaws.{sized-among, width-blocks}
 use Rattle.edges.specs.Edges.{marked, Holds, Cleared}
 
@@ -34,10 +34,6 @@ flag-few false = omega arith
 
 -- ---- what stays
 
--- words of cells that are equal are equal
-pub same-word : (m m′ : Mem) (k i : ℕ) → cell m′ k ≡ cell m k → word m′ k i ≡ word m k i
-same-word m m′ k i e = ap (λ (ws : List ℕ). getD ws i 0) e
-
 -- a store into a word leaves each other cell alone
 pub cell-kept : (m : Mem) (k i v j : ℕ) → j ≢ k → cell (store m k i v) j ≡ cell m j
 cell-kept m k i v j ne = cell-store-other m k (set (cell m k) i v) j ne
@@ -46,8 +42,8 @@ cell-kept m k i v j ne = cell-store-other m k (set (cell m k) i v) j ne
 pub holds-kept : {next : ℕ → List ℕ} {y : Layout} {m m′ : Mem} → cell m′ successorCountCell ≡ cell m successorCountCell
     → cell m′ successorCell ≡ cell m successorCell → Holds next y m → Holds next y m′
 holds-kept {m = m} {m′ = m′} e f h = record {
-  counted = λ b lt. same-word m m′ successorCountCell b e ∙ h .counted b lt;
-  stored = λ b k lt kt. same-word m m′ successorCell (2 * b + k) f ∙ h .stored b k lt kt;
+  counted = λ b lt. same-word b e ∙ h .counted b lt;
+  stored = λ b k lt kt. same-word (2 * b + k) f ∙ h .stored b k lt kt;
   few = h .few;
   below = h .below;
 }

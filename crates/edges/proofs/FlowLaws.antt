@@ -10,8 +10,9 @@ use Rattle.memory.specs.Cells.{Mem, cell}
 use Rattle.memory.specs.Names.{reachableCell, successorCountCell, firstEdgeCell, predecessorCountCell, successorCell, nextEdgeCell}
 use Rattle.memory.specs.Names.{usesRow, definesRow, parametersRow}
 use Rattle.memory.specs.declared.layout.Layout.{Layout}
+use Rattle.memory.proofs.CellLaws.{same-word}
 use Rattle.edges.specs.Flow.{Flows}
-use Rattle.edges.proofs.EdgeLaws.{same-word, holds-kept}
+use Rattle.edges.proofs.EdgeLaws.{holds-kept}
 use Rattle.edges.proofs.ResultLaws.{chained-kept}
 
 -- the cells of a script's index, blocks and graph stay: the ten first, the edges, the blocks' rows and that of the parameters
@@ -36,7 +37,7 @@ flows-still {m = m} {m′ = m′} h f = record {
   holds = holds-kept (h .low successorCountCell (omega arith)) (h .edges successorCell (omega arith) (omega arith)) (f .holds);
   chained = chained-kept m m′ (h .low firstEdgeCell (omega arith)) (h .low predecessorCountCell (omega arith))
       (h .edges nextEdgeCell (omega arith) (omega arith)) (f .chained);
-  reached = λ c lt. same-word m m′ reachableCell c (h .low reachableCell (omega arith)) ∙ f .reached c lt;
+  reached = λ c lt. same-word c (h .low reachableCell (omega arith)) ∙ f .reached c lt;
   uses-are = λ c lt i. ap (λ (ws : List ℕ). member ws i) (h .edges (usesRow c) (omega arith) (omega arith)) ∙ f .uses-are c lt i;
   defines-are = λ c lt i. ap (λ (ws : List ℕ). member ws i) (h .edges (definesRow c) (omega arith) (omega arith)) ∙ f .defines-are c lt i;
   parameters-are = λ i. ap (λ (ws : List ℕ). member ws i) (h .parameters) ∙ f .parameters-are i;

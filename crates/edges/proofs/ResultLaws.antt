@@ -11,6 +11,7 @@ use Rattle.dataflow.specs.Results.{edgesTo, predecessorsFrom}
 use Rattle.memory.specs.Cells.{Mem, cell, word}
 use Rattle.memory.specs.Names.{firstEdgeCell, nextEdgeCell, predecessorCountCell}
 use Rattle.memory.specs.declared.layout.Layout.{Layout}
+use Rattle.memory.proofs.CellLaws.{same-word}
 use Rattle.budget.specs.declared.FlowBudget.{FlowBudget}
 use Rattle.budget.specs.declared.Limits.{Limits}
 use Rattle.budget.specs.declared.Charged.{Charged}
@@ -18,7 +19,6 @@ use Rattle.edges.specs.Edges.{Holds}
 use Rattle.bitset.specs.Below.{AllBelow}
 use Rattle.edges.specs.Predecessors.{chainFrom, edgesInto, Chained, Linked}
 use Rattle.edges.specs.Reachability.{Reached}
-use Rattle.edges.proofs.EdgeLaws.{same-word}
 use Rattle.edges.proofs.ChainLaws.{only-holds}
 use Rattle.edges.proofs.StackLaws.{search-holds}
 
@@ -36,11 +36,11 @@ module _ (m m′ : Mem) (first : cell m′ firstEdgeCell ≡ cell m firstEdgeCel
   chain-kept : (n e : ℕ) → chainFrom m′ n e ≡ chainFrom m n e
   chain-kept zero e = refl
   chain-kept (suc n) e =
-      ap (λ (es : List ℕ). e ∷ es) (ap (chainFrom m′ n) (same-word m m′ nextEdgeCell e links) ∙ chain-kept n (word m nextEdgeCell e))
+      ap (λ (es : List ℕ). e ∷ es) (ap (chainFrom m′ n) (same-word e links) ∙ chain-kept n (word m nextEdgeCell e))
 
   pub edges-kept : (b : ℕ) → edgesInto m′ b ≡ edgesInto m b
   edges-kept b =
-      ap₂ (chainFrom m′) (same-word m m′ predecessorCountCell b count) (same-word m m′ firstEdgeCell b first)
+      ap₂ (chainFrom m′) (same-word b count) (same-word b first)
       ∙ chain-kept (word m predecessorCountCell b) (word m firstEdgeCell b)
 
   pub chained-kept : {next : ℕ → List ℕ} {y : Layout} → Chained next y m → Chained next y m′

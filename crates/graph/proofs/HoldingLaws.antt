@@ -36,6 +36,7 @@ use Rattle.memory.specs.Names.{
   flag,
 }
 use Rattle.memory.specs.declared.layout.Layout.{Layout}
+use Rattle.memory.proofs.CellLaws.{same-word}
 use Rattle.operands.specs.Patterns.{among}
 use Rattle.sheet.specs.declared.script.Script.{Script}
 use Rattle.sheet.specs.Decode.{partsOf}
@@ -46,7 +47,7 @@ use Rattle.edges.specs.Edges.{Holds}
 use Rattle.edges.specs.Predecessors.{Chained}
 use Rattle.edges.specs.Reachability.{Reached, sweptFrom}
 use Rattle.edges.specs.Flow.{Flows}
-use Rattle.edges.proofs.EdgeLaws.{same-word, holds-kept}
+use Rattle.edges.proofs.EdgeLaws.{holds-kept}
 use Rattle.edges.proofs.ResultLaws.{linked-holds, reached-holds, chained-kept, reached-chained}
 use Rattle.blocks.specs.Blocks.{Ready, Block}
 use Rattle.blocks.proofs.ReadLaws.{targets-everywhere}
@@ -65,15 +66,15 @@ pub block-kept : {code : List Instruction} {parameter : ℕ → Bool} {m m′ : 
     → cell m′ successorCell ≡ cell m successorCell → cell m′ (usesRow c) ≡ cell m (usesRow c) → cell m′ (definesRow c) ≡ cell m (definesRow c)
     → Block code parameter m c → Block code parameter m′ c
 block-kept {m = m} {m′ = m′} {c = c} cost start end count edge uses defines g = record {
-  start = same-word m m′ startCell c start ∙ g .start;
-  end = same-word m m′ endCell c end ∙ g .end;
-  counted = same-word m m′ successorCountCell c count ∙ g .counted;
-  edges = λ k l. same-word m m′ successorCell (2 * c + k) edge ∙ g .edges k l;
-  unused = λ k l h. same-word m m′ successorCell (2 * c + k) edge ∙ g .unused k l h;
+  start = same-word c start ∙ g .start;
+  end = same-word c end ∙ g .end;
+  counted = same-word c count ∙ g .counted;
+  edges = λ k l. same-word (2 * c + k) edge ∙ g .edges k l;
+  unused = λ k l h. same-word (2 * c + k) edge ∙ g .unused k l h;
   uses-are = λ i. ap (λ (ws : List ℕ). member ws i) uses ∙ g .uses-are i;
   defines-are = λ i. ap (λ (ws : List ℕ). member ws i) defines ∙ g .defines-are i;
-  costs = λ i l h. same-word m m′ costCell i cost
-      ∙ g .costs i (omega (arith, same-word m m′ startCell c start)) (omega (arith, same-word m m′ endCell c end));
+  costs = λ i l h. same-word i cost
+      ∙ g .costs i (omega (arith, same-word c start)) (omega (arith, same-word c end));
 }
 
 module _ (s : List ℕ) (x : Script) (y : Layout) (m₁ : Mem) (ready : Ready s x y m₁)

@@ -16,7 +16,7 @@ use Rattle.edges.proofs.FlowLaws.{Still}
 use Rattle.blocks.specs.Blocks.{Block}
 use Rattle.graph.proofs.HoldingLaws.{block-kept}
 use Rattle.verdict.specs.Points.{costAt}
-use Rattle.verdict.proofs.Sublists.{range-bounds}
+use Rattle.dataflow.proofs.Lists.{range-bounds}
 
 -- ---- what stays
 

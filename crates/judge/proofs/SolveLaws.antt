@@ -15,12 +15,12 @@ use Rattle.memory.specs.Names.{offsetCell, parametersRow}
 use Rattle.memory.specs.declared.layout.Layout.{Layout}
 use Rattle.memory.specs.Scratch.{scratch, Room}
 use Rattle.memory.specs.Sets.{SetsRoom}
+use Rattle.memory.proofs.CellLaws.{same-word}
 use Rattle.sheet.specs.declared.script.Script.{Script}
 use Rattle.sheet.specs.Decode.{partsOf}
 use Rattle.instructions.specs.Sound.{Sound}
 use Rattle.script.specs.Script.{flowCode, parameterIn}
 use Rattle.script.proofs.ScriptLaws.{code-length}
-use Rattle.edges.proofs.EdgeLaws.{same-word}
 use Rattle.edges.proofs.FlowLaws.{Still, still-then, flows-still}
 use Rattle.blocks.specs.Blocks.{Block}
 use Rattle.outcome.proofs.ScriptedLaws.{scripted}
@@ -119,7 +119,7 @@ module _ (s : List ℕ) (x : Script) (y : Layout) (m t : Mem) (begun : Begun s x
           sound = begun .sound;
           instructions = begun .fits .instructions;
           slots = begun .fits .slots;
-          offsets = λ i lt. same-word m m₂ offsetCell i (still .low offsetCell (omega arith)) ∙ begun .holding .index .offsets i lt;
+          offsets = λ i lt. same-word i (still .low offsetCell (omega arith)) ∙ begun .holding .index .offsets i lt;
           costs = λ i lt. all-costs y (begun .fits .blocks) block-here i (omega (arith, code-length s x (begun .sound)));
           hosts = λ some. eh .row (subst (λ (n : ℕ). 0 < n) (begun .awaits) some);
         };

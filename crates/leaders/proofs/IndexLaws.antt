@@ -5,18 +5,19 @@ use mathlib.Core.List.{List, [], _∷_}
 use Prim.Native.Nat.{ℕ, zero, suc, _+_, _-_, _≤_, _<_}
 use native.Mathlib.Omega.{arith}
 use lib.Dec.{eqb}
-use lib.ListN.{length, getD, length-map}
+use lib.ListN.{length, getD}
 use lib.Seq.{getD-take}
 use borrow.Author.Tests.{eq-eqb, ne-eqb}
 use Rattle.dataflow.specs.Lists.{pick, range, keep}
-use Rattle.dataflow.specs.Code.{leader, leaders, blocks, headOr, indexOf}
+use Rattle.dataflow.specs.Code.{leader, leaders, indexOf}
 use Rattle.dataflow.specs.Results.{blockCount}
-use Rattle.dataflow.proofs.Leaders.{leaders-are}
+use Rattle.dataflow.proofs.Leaders.{leaders-are, leaders-count}
 use Rattle.dataflow.proofs.Lists.{getD-tabulate, keep-few, range-length}
 use Rattle.memory.specs.Cells.{Mem, cell, word}
 use Rattle.memory.specs.Names.{blockOfCell, leaderCell, offsetCell}
 use Rattle.memory.specs.declared.layout.Layout.{Layout}
 use Rattle.memory.specs.Scratch.{scratch}
+use Rattle.memory.proofs.CellLaws.{same-word}
 use Rattle.memory.proofs.ScratchLaws.{grown}
 use Rattle.sheet.specs.declared.script.Script.{Script}
 use Rattle.sheet.specs.Decode.{partsOf}
@@ -26,22 +27,8 @@ use Rattle.script.proofs.ScriptLaws.{code-length}
 use Rattle.leaders.specs.Numbers.{marked, startsOf, Numbered}
 use Rattle.leaders.specs.Leaders.{Led}
 use Rattle.leaders.specs.Index.{Indexed}
-use Rattle.leaders.proofs.BlockLaws.{unflag, starts-are, blocks-are}
-
--- how many of k, k + 1, .. are kept, with one more
-keep-last : (f : ℕ → Bool) (k n : ℕ) → f (k + n) ≡ true → length (keep f (range k (suc n))) ≡ suc (length (keep f (range k n)))
-keep-last f k zero e =
-    let z : k + 0 ≡ k = omega arith in
-    ap (λ (t : Bool). length (pick t (k ∷ []) [])) (sym (ap f z) ∙ e)
-keep-last f k (suc n) e =
-    let z : suc k + n ≡ k + suc n = omega arith in
-    go (keep-last f (suc k) n (ap f z ∙ e)) (f k)
-  where
-    go : length (keep f (range (suc k) (suc n))) ≡ suc (length (keep f (range (suc k) n)))
-        → (t : Bool) → length (pick t (k ∷ keep f (range (suc k) (suc n))) (keep f (range (suc k) (suc n))))
-        ≡ suc (length (pick t (k ∷ keep f (range (suc k) n)) (keep f (range (suc k) n))))
-    go rest true = ap suc rest
-    go rest false = rest
+use Rattle.leaders.proofs.NumberLaws.{starts-count}
+use Rattle.leaders.proofs.BlockLaws.{is-marked, starts-are, blocks-are}
 
 -- a kept number stands behind those that are kept before it
 index-keep : (f : ℕ → Bool) (k n j : ℕ) → j < n → f (k + j) ≡ true → indexOf (k + j) (keep f (range k n)) ≡ length (keep f (range k j))
@@ -69,38 +56,32 @@ getD-default (x ∷ l) zero a b h = refl
 getD-default (x ∷ l) (suc i) a b h = getD-default l i a b (omega arith)
 
 module _ (s : List ℕ) (x : Script) (h : Sound s x) (m m′ : Mem) (led : Led s x m) (b : ℕ) (g : Numbered (x .count) m m′ b) where
-  -- the marks say which instructions are leaders
-  is-marked : (i : ℕ) → i < x .count → marked (cell m blockOfCell) i ≡ leader (flowCode (partsOf s)) i
-  is-marked i lt = ap (λ (w : ℕ). not (eqb w 0)) (led .marks i lt) ∙ unflag (leader (flowCode (partsOf s)) i)
-
   starts-at : (c : ℕ) → c < blockCount (flowCode (partsOf s))
       → word m′ leaderCell c ≡ getD (leaders (flowCode (partsOf s))) c (length (flowCode (partsOf s)))
   starts-at c lt =
       let lt′ : c < b = omega (arith, blocks-are s x h m led m′ b g) in
-      let long : length (leaders (flowCode (partsOf s))) ≡ blockCount (flowCode (partsOf s)) = length-map (blocks (flowCode (partsOf s))) (headOr 0) in
       sym (getD-take b (cell m′ leaderCell) c 0 lt′)
-      ∙ ap (λ (l : List ℕ). getD l c 0) (g .starts ∙ starts-are s x h m led)
-      ∙ getD-default (leaders (flowCode (partsOf s))) c 0 (length (flowCode (partsOf s))) (omega (arith, long))
+      ∙ same-word c (g .starts ∙ starts-are s x h m led)
+      ∙ getD-default (leaders (flowCode (partsOf s))) c 0 (length (flowCode (partsOf s))) (omega (arith, leaders-count (flowCode (partsOf s))))
 
   numbers-at : (t : ℕ) → t < x .count → leader (flowCode (partsOf s)) t ≡ true
       → word m′ blockOfCell t ≡ indexOf t (leaders (flowCode (partsOf s)))
   numbers-at t lt e =
       let ms : List ℕ = cell m blockOfCell in
       let z : 0 + t ≡ t = omega arith in
-      let is : marked ms (0 + t) ≡ true = ap (marked ms) z ∙ is-marked t lt ∙ e in
-      let one : suc (length (startsOf ms t)) - 1 ≡ length (startsOf ms t) = omega arith in
-      ap (λ (l : List ℕ). getD l t 0) (g .numbers)
+      let is : marked ms (0 + t) ≡ true = ap (marked ms) z ∙ is-marked s x h m led t lt ∙ e in
+      let more : length (startsOf ms (suc t)) ≡ length (startsOf ms t) + 1 = starts-count ms t (is-marked s x h m led t lt ∙ e) in
+      same-word t (g .numbers)
       ∙ getD-tabulate 0 (x .count) t (λ i. length (startsOf ms (suc i)) - 1) 0 lt
       ∙ ap (λ (i : ℕ). length (startsOf ms (suc i)) - 1) z
-      ∙ ap (λ (n : ℕ). n - 1) (keep-last (marked ms) 0 t is)
-      ∙ one
+      ∙ omega (arith, more)
       ∙ sym (index-keep (marked ms) 0 (x .count) t lt is)
       ∙ ap₂ indexOf z (starts-are s x h m led)
 
   -- what `leaders` and then `number` leave is the index
   pub indexed : Indexed s x m′
   indexed = record {
-    offsets = λ i lt. ap (λ (l : List ℕ). getD l i 0) (g .others offsetCell (λ q. absurd (omega arith)) (λ q. absurd (omega arith))) ∙ led .offsets i lt;
+    offsets = λ i lt. same-word i (g .others offsetCell (λ q. absurd (omega arith)) (λ q. absurd (omega arith))) ∙ led .offsets i lt;
     starts = starts-at;
     numbers = numbers-at;
   }
@@ -115,13 +96,13 @@ indexed-grown s x y y′ l e g = record {
 }
   where
     at : (k i : ℕ) → k < 4 → word (scratch y′ l) k i ≡ word (scratch y l) k i
-    at k i h = ap (λ (c : List ℕ). getD c i 0) (sym (grown y y′ l k e h))
+    at k i h = same-word i (sym (grown y y′ l k e h))
 
 -- there are no more blocks than instructions
 pub few-blocks : (s : List ℕ) (x : Script) → Sound s x → blockCount (flowCode (partsOf s)) ≤ x .count
 few-blocks s x h =
     let code = flowCode (partsOf s) in
-    let e : blockCount code ≡ length (keep (leader code) (range 0 (length code))) = sym (length-map (blocks code) (headOr 0)) ∙ ap length (leaders-are code) in
+    let e : blockCount code ≡ length (keep (leader code) (range 0 (length code))) = sym (leaders-count code) ∙ ap length (leaders-are code) in
     omega (arith, e, keep-few (leader code) (range 0 (length code)), range-length 0 (length code), code-length s x h)
 
 -- instruction 0 is marked

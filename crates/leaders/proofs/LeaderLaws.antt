@@ -8,19 +8,19 @@ use native.Mathlib.Decide.{ℕ-discrete}
 use native.Mathlib.Numerals.{add-one}
 use native.Mathlib.Omega.{arith}
 use lib.Dec.{eqb}
-use lib.ListN.{length, getD, replicate, length-replicate, getD-replicate}
+use lib.ListN.{getD, replicate, length-replicate, getD-replicate}
 use borrow.Author.Tests.{eq-eqb, ne-eqb, eqb-true}
 use Rattle.dataflow.specs.Lists.{range, some, elem}
 use Rattle.dataflow.specs.Code.{Instruction, outside, instructionAt, leader}
-use Rattle.dataflow.proofs.Bools.{same-truth}
-use Rattle.dataflow.proofs.Lists.{some-at, some-to, mem-range}
+use Rattle.dataflow.proofs.Bools.{and-left, and-right, same-truth}
+use Rattle.dataflow.proofs.Lists.{some-at, some-to, mem-range, range-bounds, mem-getD, mem-place}
 use Rattle.operands.specs.Kinds.{endsBlock}
 use Rattle.operands.specs.Operands.{targetsOf}
 use Rattle.operands.specs.Instructions.{valuesOf, Readable}
 use Rattle.memory.specs.Cells.{Mem, cell, word, store, storeCell}
 use Rattle.memory.specs.Names.{blockOfCell, flag, offsetCell}
 use Rattle.memory.specs.Scratch.{scratchWidths}
-use Rattle.memory.proofs.CellLaws.{Sized, sized-store, sized-cell, cell-store-other, word-cell-same, word-cell-other, word-store-other}
+use Rattle.memory.proofs.CellLaws.{Sized, same-word, sized-store, sized-cell, cell-store-other, word-cell-same, word-cell-other, word-store-other}
 use Rattle.memory.proofs.ScratchLaws.{word-put, place-instructions, width-instructions, sized-among}
 use Rattle.sheet.specs.declared.script.Script.{Script}
 use Rattle.sheet.specs.Decode.{partsOf}
@@ -59,7 +59,7 @@ module _ (s : List ℕ) (x : Script) (h : Sound s x) where
       → m₂ ≡ markedBy (endsBlock (codeInstruction s x i .pattern .kind)) (targetsOf (codeInstruction s x i .pattern .kind) (valuesOf s (codeInstruction s x i))) (x .count) i m₁
       → Marking s x m m₂ (i + 1)
   marking-more m m′ m₁ m₂ i at g z l e e₁ e₂ = record {
-    offsets = λ k b. ap (λ (w : List ℕ). getD w k 0) (kept offsetCell (λ p. omega arith)) ∙ offset k b (ℕ-discrete k i);
+    offsets = λ k b. same-word k (kept offsetCell (λ p. omega arith)) ∙ offset k b (ℕ-discrete k i);
     marks = λ j b. ap (λ (w : Mem). word w blockOfCell j) e₂
         ∙ marked-word (marking x) ends ts i m₁ j z₁ (h .targets-below i l) b (ledBy code i j)
         (ap (λ (w : Mem). word w blockOfCell j) e₁ ∙ word-cell-other m′ offsetCell _ blockOfCell j (λ p. omega arith) ∙ g .marks j b)
@@ -88,31 +88,9 @@ module _ (s : List ℕ) (x : Script) (h : Sound s x) where
 
 -- ---- leaders by all instructions are the leaders
 
--- a target of the k-th instruction is a target of some instruction, and back
+-- an instruction names a target
 names : ℕ → Instruction → Bool
 names t v = elem t (v .targets)
-
-some-in : (l : List Instruction) (k t : ℕ) → names t (getD l k outside) ≡ true → some (names t) l ≡ true
-unfolding names
-some-in [] zero t e = absurd (false≢true e)
-some-in [] (suc k) t e = absurd (false≢true e)
-some-in (v ∷ l) zero t e = rw e refl
-some-in (v ∷ l) (suc k) t e = rw (some-in l k t e) (or-true (elem t (v .targets)))
-
-in-some : (l : List Instruction) (t : ℕ) → some (names t) l ≡ true → (k : ℕ) × (k < length l) × (names t (getD l k outside) ≡ true)
-unfolding names
-in-some [] t e = absurd (false≢true e)
-in-some (v ∷ l) t e = go (elem t (v .targets)) refl e (λ e′. in-some l t e′)
-  where
-    go : (b : Bool) → elem t (v .targets) ≡ b → (b || some (names t) l) ≡ true
-        → (some (names t) l ≡ true → (k : ℕ) × (k < length l) × (names t (getD l k outside) ≡ true))
-        → (k : ℕ) × (k < suc (length l)) × (names t (getD (v ∷ l) k outside) ≡ true)
-    go true q e f = (0, omega arith, q)
-    go false q e f = let z = f e in (suc (z .0), omega (arith, z .1), z .2)
-
-both : (a b : Bool) → (a && b) ≡ true → (a ≡ true) × (b ≡ true)
-both true b e = (refl, e)
-both false b e = absurd (false≢true e)
 
 module _ (s : List ℕ) (x : Script) (h : Sound s x) where
   led-leader : (j : ℕ) → j < x .count → ledBy (flowCode (partsOf s)) (x .count) j ≡ leader (flowCode (partsOf s)) j
@@ -127,18 +105,21 @@ module _ (s : List ℕ) (x : Script) (h : Sound s x) where
       at k = instructionAt (flowCode (partsOf s)) k
 
       there : some (leads code (suc i)) (range 0 (x .count)) ≡ true → (at i .ends || some (names (suc i)) code) ≡ true
-      there e = let z = some-at (leads code (suc i)) (range 0 (x .count)) e in one (z .0) (both (at (z .0) .ends) _ (z .2))
+      there e =
+          let z = some-at (leads code (suc i)) (range 0 (x .count)) e in
+          one (z .0) (range-bounds 0 (x .count) (z .0) (z .1) .1) (and-left (at (z .0) .ends) _ (z .2)) (and-right (at (z .0) .ends) _ (z .2))
         where
-          one : (k : ℕ) → (at k .ends ≡ true) × ((eqb (suc i) (suc k) || elem (suc i) (at k .targets)) ≡ true)
+          one : (k : ℕ) → k < 0 + x .count → at k .ends ≡ true → (eqb (suc i) (suc k) || elem (suc i) (at k .targets)) ≡ true
               → (at i .ends || some (names (suc i)) code) ≡ true
-          one k p = go (eqb (suc i) (suc k)) refl (p .1)
+          one k l p = go (eqb (suc i) (suc k)) refl
             where
               go : (t : Bool) → eqb (suc i) (suc k) ≡ t → (t || elem (suc i) (at k .targets)) ≡ true
                   → (at i .ends || some (names (suc i)) code) ≡ true
               go true q f =
                   let r : i ≡ k = omega (arith, eqb-true (suc i) (suc k) q) in
-                  let g : at i .ends ≡ true = ap (λ (n : ℕ). at n .ends) r ∙ p .0 in rw g refl
-              go false q f = rw (some-in code k (suc i) f) (or-true (at i .ends))
+                  let g : at i .ends ≡ true = ap (λ (n : ℕ). at n .ends) r ∙ p in rw g refl
+              go false q f =
+                  rw (some-to (names (suc i)) code (at k) (mem-getD code k outside (omega (arith, code-length s x h))) f) (or-true (at i .ends))
 
       back : (at i .ends || some (names (suc i)) code) ≡ true → some (leads code (suc i)) (range 0 (x .count)) ≡ true
       back e = two (at i .ends) refl e
@@ -153,8 +134,9 @@ module _ (s : List ℕ) (x : Script) (h : Sound s x) where
           two : (t : Bool) → at i .ends ≡ t → (t || some (names (suc i)) code) ≡ true → some (leads code (suc i)) (range 0 (x .count)) ≡ true
           two true q e = from i (omega arith) (rw (q, eq-eqb (suc i) (suc i) refl) refl)
           two false q e =
-              let z = in-some code (suc i) e in
-              third (z .0) (omega (arith, z .1, code-length s x h)) (z .2) (at (z .0) .ends) refl
+              let z = some-at (names (suc i)) code e in
+              let k = mem-place code (z .0) outside (z .1) in
+              third (k .0) (omega (arith, k .1, code-length s x h)) (ap (names (suc i)) (k .2) ∙ z .2) (at (k .0) .ends) refl
 
   pub marking-all : (m m′ : Mem) (i : ℕ) → Marking s x m m′ i → i ≡ x .count → Led s x m′
   marking-all m m′ i g e = record {

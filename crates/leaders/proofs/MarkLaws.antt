@@ -13,6 +13,7 @@ use lib.Seq.{drop-cons}
 use borrow.Author.Tests.{eq-eqb, ne-eqb, lt-ltb, le-ltb}
 use Rattle.dataflow.specs.Lists.{pick, range, some, elem}
 use Rattle.dataflow.specs.Code.{Instruction}
+use Rattle.dataflow.proofs.Lists.{range-snoc}
 use Rattle.memory.specs.Cells.{Mem, cell, word, store}
 use Rattle.memory.specs.Names.{blockOfCell, flag}
 use Rattle.memory.specs.Scratch.{scratchWidths}
@@ -20,20 +21,13 @@ use Rattle.memory.specs.declared.layout.Layout.{Layout}
 use Rattle.memory.proofs.CellLaws.{Sized, sized-store, cell-store-other, word-store-other}
 use Rattle.memory.proofs.ScratchLaws.{word-put, place-instructions}
 use Rattle.bitset.specs.Below.{AllBelow}
-use Rattle.operands.specs.Instructions.{nth, targetIn}
-use Rattle.operands.specs.declared.slots.JumpTarget.{JumpTarget}
+use Rattle.operands.specs.Instructions.{nth}
 use Rattle.operands.specs.declared.instruction.Value.the-variants as values
-use Rattle.operands.specs.declared.instruction.TargetOperand.{TargetOperand}
-use Rattle.operands.specs.declared.instruction.TargetOperand.the-variants as targets
 use Rattle.leaders.specs.Leaders.{markAll, markNext, markedBy, leads, ledBy}
-use Rattle.leaders.proofs.NumberLaws.{range-snoc}
 
 -- ---- what the marks are after stores
 
 module _ (y : Layout) where
-  abbrev n : ℕ
-  n = y .instructions
-
   -- one mark more
   store-mark : (m : Mem) (t j : ℕ) → Sized (scratchWidths y) m → t < y .instructions
       → word (store m blockOfCell t 1) blockOfCell j ≡ pick (eqb j t) 1 (word m blockOfCell j)
@@ -132,25 +126,18 @@ unfolding markAll
 targets-all ts m k h = rw (drop-of-length-le ts h) refl
 
 -- the k-th of a list that is long enough
-pub nth-there : (l : List ℕ) (k : ℕ) → k < length l → nth l k ≡ values.Is (getD l k 0)
+nth-there : (l : List ℕ) (k : ℕ) → k < length l → nth l k ≡ values.Is (getD l k 0)
 unfolding nth
 nth-there [] k h = absurd (omega arith)
 nth-there (x ∷ l) zero h = refl
 nth-there (x ∷ l) (suc k) h = nth-there l k (omega arith)
 
--- the k-th target, as it is read
-module _ (o : TargetOperand) (l : List ℕ) (k : ℕ) (e : targetIn o ≡ nth l k) (h : k < length l) where
-  pub target-there : (t : JumpTarget) → o ≡ targets.Is t → t .0 ≡ getD l k 0
-  target-there t q =
-      let f : values.Is (t .0) ≡ values.Is (getD l k 0) = ap targetIn (sym q) ∙ e ∙ nth-there l k h in
-      cc
+-- the k-th operand, as it is read
+module _ (l : List ℕ) (k : ℕ) (h : k < length l) where
+  pub operand-there : (x : ℕ) → values.Is x ≡ nth l k → x ≡ getD l k 0
+  operand-there x e = let f : values.Is x ≡ values.Is (getD l k 0) = e ∙ nth-there l k h in cc
 
-  pub target-missing : o ≡ targets.Absent → ⊥
-  target-missing q =
-      let f : values.Absent ≡ values.Is (getD l k 0) = ap targetIn (sym q) ∙ e ∙ nth-there l k h in
+  pub operand-missing : values.Absent ≡ nth l k → ⊥
+  operand-missing e =
+      let f : values.Absent ≡ values.Is (getD l k 0) = e ∙ nth-there l k h in
       let z : _≡_ {A = ℕ} 0 1 = cc in omega arith
-
-pub below-at : (n : ℕ) (l : List ℕ) (k : ℕ) → AllBelow n l → k < length l → getD l k 0 < n
-below-at n [] k b h = absurd (omega arith)
-below-at n (x ∷ l) zero b h = b .0
-below-at n (x ∷ l) (suc k) b h = below-at n l k (b .1) (omega arith)

@@ -1,7 +1,7 @@
 -- Numbering, instruction by instruction. Assumes nothing.
 use mathlib.Core.Logic.{_≢_}
 use mathlib.Core.Path.{_≡_, refl, sym, ap, _∙_}
-use mathlib.Core.Bool.{true, false, not, true≢false}
+use mathlib.Core.Bool.{Bool, true, not, true≢false}
 use mathlib.Core.List.{List, [], _∷_, _++_, append-nil}
 use Prim.Native.Nat.{ℕ, zero, suc, _+_, _-_, _≤_, _<_}
 use native.Mathlib.Decide.{ℕ-discrete}
@@ -11,16 +11,11 @@ use lib.ListN.{length, getD, take, set, length-append, length-set}
 use lib.Seq.{ext-getD, take-suc-set, getD-set-same, getD-set-other}
 use borrow.Author.Tests.{eq-eqb, ne-eqb}
 use Rattle.dataflow.specs.Lists.{pick, range, keep}
-use Rattle.dataflow.proofs.Lists.{length-tabulate, getD-tabulate, keep-append}
+use Rattle.dataflow.proofs.Lists.{length-tabulate, getD-tabulate, range-snoc, keep-append}
 use Rattle.memory.specs.Cells.{Mem, cell, word, store}
 use Rattle.memory.specs.Names.{blockOfCell, leaderCell}
-use Rattle.memory.proofs.CellLaws.{cell-store-same, cell-store-other}
+use Rattle.memory.proofs.CellLaws.{same-word, cell-store-same, cell-store-other}
 use Rattle.leaders.specs.Numbers.{marked, startsOf, numbersOf, numberOne, countOne, Numbered}
-
-pub range-snoc : (k n : ℕ) → range k (suc n) ≡ range k n ++ ((k + n) ∷ [])
-range-snoc k zero = ap (λ (x : ℕ). x ∷ []) (omega arith)
-range-snoc k (suc n) =
-    ap (λ (l : List ℕ). k ∷ l) (range-snoc (suc k) n) ∙ ap (λ (x : ℕ). k ∷ (range (suc k) n ++ (x ∷ []))) (omega arith)
 
 -- the starts up to and with one more instruction
 pub starts-more : (ms : List ℕ) (i : ℕ) → startsOf ms (suc i) ≡ startsOf ms i ++ pick (marked ms i) (i ∷ []) []
@@ -31,6 +26,10 @@ starts-more ms i =
 starts-yes : (ms : List ℕ) (i : ℕ) → getD ms i 0 ≢ 0 → startsOf ms (suc i) ≡ startsOf ms i ++ (i ∷ [])
 starts-yes ms i h = starts-more ms i ∙ rw (ne-eqb (getD ms i 0) 0 h) refl
 
+-- one more if it is marked
+pub starts-count : (ms : List ℕ) (i : ℕ) → marked ms i ≡ true → length (startsOf ms (suc i)) ≡ length (startsOf ms i) + 1
+starts-count ms i e = ap length (starts-more ms i ∙ ap (λ (t : Bool). startsOf ms i ++ pick t (i ∷ []) []) e) ∙ length-append (startsOf ms i) (i ∷ [])
+
 starts-no : (ms : List ℕ) (i : ℕ) → getD ms i 0 ≡ 0 → startsOf ms (suc i) ≡ startsOf ms i
 starts-no ms i h = starts-more ms i ∙ rw (eq-eqb (getD ms i 0) 0 h) (append-nil (startsOf ms i))
 
@@ -40,7 +39,7 @@ starts-few ms (suc i) = go (ℕ-discrete (getD ms i 0) 0) (starts-few ms i)
   where
     go : Dec (getD ms i 0 ≡ 0) → length (startsOf ms i) ≤ i → length (startsOf ms (suc i)) ≤ suc i
     go (yes e) h = omega (arith, ap length (starts-no ms i e))
-    go (no e) h = omega (arith, simp length-append at (ap length (starts-yes ms i e)))
+    go (no e) h = omega (arith, starts-count ms i (ap not (ne-eqb (getD ms i 0) 0 e)))
 
 -- after i instructions
 pub record Going (m m′ : Mem) (i blocks : ℕ) : Type 0 where
@@ -76,12 +75,12 @@ module _ (m m′ : Mem) (i b : ℕ) (g : Going m m′ i b) (cells : 2 < length m
     done-more j h = go (ℕ-discrete j i)
       where
         go : Dec (j ≡ i) → word m″ blockOfCell j ≡ length (startsOf ms (suc j)) - 1
-        go (yes p) = ap (λ (l : List ℕ). getD l j 0) e ∙ rw p (getD-set-same (cell m′ blockOfCell) i v 0 hi ∙ q)
-        go (no p) = ap (λ (l : List ℕ). getD l j 0) e ∙ getD-set-other (cell m′ blockOfCell) i j v 0 p ∙ g .done j (omega arith)
+        go (yes p) = same-word j e ∙ rw p (getD-set-same (cell m′ blockOfCell) i v 0 hi ∙ q)
+        go (no p) = same-word j e ∙ getD-set-other (cell m′ blockOfCell) i j v 0 p ∙ g .done j (omega arith)
 
     left-more : (j : ℕ) → i + 1 ≤ j → word m″ blockOfCell j ≡ getD ms j 0
     left-more j h =
-        ap (λ (l : List ℕ). getD l j 0) e ∙ getD-set-other (cell m′ blockOfCell) i j v 0 (λ p. omega arith) ∙ g .left j (omega arith)
+        same-word j e ∙ getD-set-other (cell m′ blockOfCell) i j v 0 (λ p. omega arith) ∙ g .left j (omega arith)
 
     long-more : length (cell m″ blockOfCell) ≡ length ms
     long-more = ap length e ∙ length-set (cell m′ blockOfCell) i v ∙ g .long
@@ -103,7 +102,7 @@ module _ (m m′ : Mem) (i b : ℕ) (g : Going m m′ i b) (cells : 2 < length m
   next-block z =
       let w : Mem = store m′ leaderCell b i in
       let n : startsOf ms (suc i) ≡ startsOf ms i ++ (i ∷ []) = starts-yes ms i (λ p. z (mark-is ∙ p)) in
-      let c : length (startsOf ms (suc i)) ≡ length (startsOf ms i) + 1 = simp length-append at (ap length n) in
+      let c : length (startsOf ms (suc i)) ≡ length (startsOf ms i) + 1 = ap length n ∙ length-append (startsOf ms i) (i ∷ []) in
       let o : cell w blockOfCell ≡ cell m′ blockOfCell = cell-store-other m′ leaderCell _ blockOfCell (λ p. omega arith) in
       let l : length w ≡ length m′ = length-set m′ leaderCell (set (cell m′ leaderCell) b i) in
       let e : cell (store w blockOfCell i b) blockOfCell ≡ set (cell m′ blockOfCell) i b =

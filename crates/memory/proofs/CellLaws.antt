@@ -103,6 +103,10 @@ cells-patched ns l k ys e h =
         ∙ row-apart l (start ns k) ys fits (start ns j) (width ns j) (omega (arith, cell-fits ns j)) (rw e (cells-apart ns j k q))
         ∙ sym (getD-set-other (cells ns l) k j ys [] q ∙ cell-row ns l j)
 
+-- words of cells that are equal are equal
+pub same-word : {u v : List ℕ} (i : ℕ) → u ≡ v → getD u i 0 ≡ getD v i 0
+same-word i e = ap (λ (ws : List ℕ). getD ws i 0) e
+
 -- ---- what a store does to the cells, and what it leaves alone. `store m k i v` is `storeCell m k (set (cell m k) i v)`
 pub cell-store-same : (m : Mem) (k : ℕ) (ws : List ℕ) → k < length m → cell (storeCell m k ws) k ≡ ws
 cell-store-same m k ws h = getD-set-same m k ws [] h
@@ -111,10 +115,10 @@ pub cell-store-other : (m : Mem) (k : ℕ) (ws : List ℕ) (j : ℕ) → j ≢ k
 cell-store-other m k ws j ne = getD-set-other m k j ws [] ne
 
 pub word-cell-same : (m : Mem) (k : ℕ) (ws : List ℕ) (i : ℕ) → k < length m → word (storeCell m k ws) k i ≡ getD ws i 0
-word-cell-same m k ws i h = ap (λ (x : List ℕ). getD x i 0) (cell-store-same m k ws h)
+word-cell-same m k ws i h = same-word i (cell-store-same m k ws h)
 
 pub word-cell-other : (m : Mem) (k : ℕ) (ws : List ℕ) (j i : ℕ) → j ≢ k → word (storeCell m k ws) j i ≡ word m j i
-word-cell-other m k ws j i ne = ap (λ (x : List ℕ). getD x i 0) (cell-store-other m k ws j ne)
+word-cell-other m k ws j i ne = same-word i (cell-store-other m k ws j ne)
 
 pub word-store-same : (m : Mem) (k i v : ℕ) → k < length m → i < length (cell m k) → word (store m k i v) k i ≡ v
 word-store-same m k i v h g = word-cell-same m k (set (cell m k) i v) i h ∙ getD-set-same (cell m k) i v 0 g

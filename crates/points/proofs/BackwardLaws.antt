@@ -22,8 +22,9 @@ use Rattle.script.specs.Script.{flowCode, parameterIn, hostIn}
 use Rattle.points.specs.declared.awaits.Points.{Points}
 use Rattle.points.specs.declared.awaits.Points.the-variants.{Passed, Refused}
 use Rattle.answer.specs.Words.{Means}
-use Rattle.verdict.specs.Points.{Checking, stop, on, andThen, Point, pointRun, awaitsRun, awaitPoints}
+use Rattle.verdict.specs.Points.{Checking, on, andThen, Point, pointRun, awaitsRun, awaitPoints}
 use Rattle.points.specs.Rows.{awaitsAmong, pointsOf, Entry, Entries, InstructionChecked, AwaitsChecked}
+use Rattle.points.proofs.ChargeLaws.{stop-stays}
 
 -- ---- awaits counted from the back
 
@@ -104,16 +105,6 @@ module _ (s : List ℕ) (x : Script) (y : Layout) (l : Limits) (end : ℕ) (g : 
   run-first k h b = ap
       (λ (n : ℕ). awaitsRun (flowCode (partsOf s)) (parameterIn (partsOf s)) l (y .words) (x .slots) (hostIn (partsOf s)) g (range k n) b)
       (one-more s end g k h)
-
-  -- a stop behind stays
-  stop-stays : (b : FlowBudget) (q : Refusal) (z : FlowBudget) (n k : ℕ) → k + n ≤ end → runFrom b (k + n) ≡ stop q z → runFrom b k ≡ stop q z
-  stop-stays b q z zero k h e =
-      let f : k ≡ k + 0 = omega arith in
-      ap (runFrom b) f ∙ e
-  stop-stays b q z (suc n) k h e =
-      let f : suc k + n ≡ k + suc n = omega arith in
-      run-first k (omega arith) b
-      ∙ ap (λ (c : Checking). andThen c (pointFrom k)) (stop-stays b q z n (suc k) (omega arith) (ap (runFrom b) f ∙ e))
 
 -- ---- entries
 
@@ -203,9 +194,8 @@ module _ (s : List ℕ) (x : Script) (y : Layout) (l : Limits) (budget : FlowBud
       pub awaits-stopped : (start : ℕ) → start ≤ pc₁ → (u : Refusal) (z : FlowBudget) → r ≡ Refused u z
           → AwaitsChecked s x y l budget start end place m m₂ t t₂ r
       awaits-stopped start low u z e = record {
-        answer = λ g h. let f : start + (pc₁ - start) ≡ pc₁ = omega arith in
-            ap pointsOf e ∙ sym (stop-stays s x y l end g budget u z (pc₁ - start) start (omega arith)
-            (ap (runFrom s x y l end g budget) f ∙ run-more g h ∙ ap pointsOf e));
+        answer = λ g h. ap pointsOf e ∙ sym (stop-stays (runFrom s x y l end g budget) (pointFrom s x y l end g) end
+            (λ k lt. run-first s x y l end g k lt budget) start pc₁ low (omega arith) (run-more g h ∙ ap pointsOf e));
         places = λ n v w. let o : _≡_ {A = ℕ} 0 1 = cc in absurd (omega arith);
         entries = λ n v w. let o : _≡_ {A = ℕ} 0 1 = cc in absurd (omega arith);
         others = λ k h. c .others k h ∙ a .others k h;

@@ -24,6 +24,24 @@ use Rattle.points.specs.declared.awaits.Points.the-variants.{Passed, Ref
 use Rattle.verdict.specs.Points.{Checking, stop, on, andThen, ifPaid, costAt, awaitRun, pointRun, awaitsRun}
 use Rattle.points.specs.Rows.{pointsOf, backRun, ChargedBack}
 
+-- ---- a run from the back
+
+-- a stop at an instruction stays, whatever is before it
+pub stop-stays : (run : ℕ → Checking) (point : ℕ → FlowBudget → Checking) (end : ℕ)
+    → ((k : ℕ) → k < end → run k ≡ andThen (run (suc k)) (point k)) → {q : Refusal} {z : FlowBudget} (start pc : ℕ) → start ≤ pc → pc ≤ end
+    → run pc ≡ stop q z → run start ≡ stop q z
+stop-stays run point end first {q} {z} start pc low high e =
+    let f : start + (pc - start) ≡ pc = omega arith in
+    go (pc - start) start (omega arith) (ap run f ∙ e)
+  where
+    go : (n k : ℕ) → k + n ≤ end → run (k + n) ≡ stop q z → run k ≡ stop q z
+    go zero k h e =
+        let f : k ≡ k + 0 = omega arith in
+        ap run f ∙ e
+    go (suc n) k h e =
+        let f : suc k + n ≡ k + suc n = omega arith in
+        first k (omega arith) ∙ ap (λ (c : Checking). andThen c (point k)) (go n (suc k) (omega arith) (ap run f ∙ e))
+
 -- ---- from an instruction on
 
 module _ (cost : ℕ → ℕ) (l : Limits) (b : FlowBudget) (end : ℕ) where
@@ -38,16 +56,6 @@ module _ (cost : ℕ → ℕ) (l : Limits) (b : FlowBudget) (end : ℕ) where
   back-first : (k : ℕ) → k < end → backFrom k ≡ andThen (backFrom (suc k)) (λ b′. ifPaid (charged l b′ (cost k ∷ [])) on)
   unfolding backRun
   back-first k h = let e : end - k ≡ suc (end - suc k) = omega arith in ap (λ (n : ℕ). backRun cost l (range k n) b) e
-
-  -- a stop behind stays
-  back-stays : (q : Refusal) (z : FlowBudget) (n k : ℕ) → k + n ≤ end → backFrom (k + n) ≡ stop q z → backFrom k ≡ stop q z
-  back-stays q z zero k h e =
-      let f : k ≡ k + 0 = omega arith in
-      ap backFrom f ∙ e
-  back-stays q z (suc n) k h e =
-      let f : suc k + n ≡ k + suc n = omega arith in
-      back-first k (omega arith)
-      ∙ ap (λ (c : Checking). andThen c (λ b′. ifPaid (charged l b′ (cost k ∷ [])) on)) (back-stays q z n (suc k) (omega arith) (ap backFrom f ∙ e))
 
 module _ (m : Mem) (l : Limits) (b : FlowBudget) (start end place pc : ℕ) (left : FlowBudget)
     (a : backFrom (word m costCell) l b end pc ≡ on left) where
@@ -75,9 +83,8 @@ module _ (m : Mem) (l : Limits) (b : FlowBudget) (start end place pc : ℕ) (lef
     pub back-over : start ≤ pc₁ → (z : FlowBudget) → c ≡ Over z → (r : Points) → r ≡ Refused WorkLimit (budgetOf c)
         → ChargedBack l b start end place m r
     back-over low z f r g = let h : r ≡ Refused WorkLimit z = g ∙ ap (λ (w : Charged). Refused WorkLimit (budgetOf w)) f in record {
-      answer = let i : start + (pc₁ - start) ≡ pc₁ = omega arith in
-          ap pointsOf h ∙ sym (back-stays (word m costCell) l b end WorkLimit z (pc₁ - start) start (omega arith)
-          (ap (backFrom (word m costCell) l b end) i ∙ back-next ∙ ap (λ (v : Charged). ifPaid v on) f));
+      answer = ap pointsOf h ∙ sym (stop-stays (backFrom (word m costCell) l b end) _ end (back-first (word m costCell) l b end) start pc₁ low
+          (omega arith) (back-next ∙ ap (λ (v : Charged). ifPaid v on) f));
       places = λ n v w. let o : _≡_ {A = ℕ} 0 1 = cc in absurd (omega arith);
     }
 

@@ -3,13 +3,13 @@
 use mathlib.Core.Path.{_≡_, refl, sym, ap, ap₂, _∙_}
 use mathlib.Core.Bool.{Bool, true, false, not, _&&_, _||_, false≢true}
 use mathlib.Core.List.{List, [], _∷_}
-use Prim.Native.Nat.{ℕ, zero, suc, _+_, _*_, _-_, _/_, _≤_, _<_}
+use Prim.Native.Nat.{ℕ, zero, suc, _+_, _-_, _/_, _≤_, _<_}
 use native.Mathlib.Decide.{decLt}
 use native.Mathlib.Omega.{arith}
 use lib.ListN.{length}
 use Rattle.bitset.specs.Sets.{member, within}
 use Rattle.bitset.proofs.SetLaws.{member-past, within-member}
-use Rattle.dataflow.specs.Lists.{pick, range, every, elem}
+use Rattle.dataflow.specs.Lists.{pick, range, elem}
 use Rattle.dataflow.specs.Analyses.{initTransfer}
 use Rattle.dataflow.specs.Blocks.{exposed}
 use Rattle.dataflow.specs.Code.{Instruction, instructionAt, program}
@@ -29,7 +29,7 @@ use Rattle.operands.specs.Kinds.{isAwait}
 use Rattle.verdict.specs.Points.{Checking, stop, on, ifPaid, costAt, readsRun}
 use Rattle.answer.specs.Words.{Means}
 use Rattle.points.specs.declared.reads.Reads.{Reads}
-use Rattle.points.specs.declared.reads.Reads.the-variants.{Filled, Unfilled, Over}
+use Rattle.points.specs.declared.reads.Reads.the-variants.{Filled, Over}
 use Rattle.points.specs.Rows.{awaitsAmong, readsOf, Used, frontRun, ReadsCharged, ReadsChecked}
 use Rattle.points.specs.Slots.{awaitCount}
 use Rattle.points.proofs.ReadLaws.{awaits-more, counted-once}

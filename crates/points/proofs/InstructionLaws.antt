@@ -43,9 +43,6 @@ use Rattle.points.proofs.MeansLaws.{means-live}
 
 -- ---- a slot in common
 
-both : (a b : Bool) → a ≡ true → b ≡ true → (a && b) ≡ true
-both a b e f = rw (e, f) refl
-
 -- rows that stand for sets have a slot in common exactly if some slot below n is in both; the first set has no other
 common-means : (w n : ℕ) (xs ys : List ℕ) (f g : ℕ → Bool) → Words w xs → Words w ys → Means w xs f → Means w ys g → n ≤ 64 * w
     → ((i : ℕ) → f i ≡ true → i < n) → common xs ys ≡ some (λ i. f i && g i) (range 0 n)
@@ -57,7 +54,7 @@ common-means w n xs ys f g hx hy mx my le low = same-truth (common xs ys) (some 
         let a : f (r .0) ≡ true = sym (mx (r .0) (r .1)) ∙ r .2 in
         let z : 0 + r .0 ≡ r .0 = omega arith in
         some-to (λ i. f i && g i) (range 0 n) (r .0) (subst (λ (k : ℕ). List·Memᴰ k (range 0 n)) z (mem-range 0 n (r .0) (low (r .0) a)))
-        (both (f (r .0)) (g (r .0)) a (sym (my (r .0) (r .1)) ∙ r .3))
+        (rw (a, sym (my (r .0) (r .1)) ∙ r .3) refl)
 
     back : some (λ i. f i && g i) (range 0 n) ≡ true → common xs ys ≡ true
     back e =

@@ -3,13 +3,11 @@ use mathlib.Core.Path.{_≡_, refl, sym, ap, ap₂, _∙_}
 use mathlib.Core.Bool.{Bool, true, false, not, _&&_, _||_, or-comm}
 use mathlib.Core.List.{List, [], _∷_}
 use Prim.Native.Nat.{ℕ, _*_}
-use native.Mathlib.Decide.{ℕ-discrete}
 use native.Mathlib.Omega.{arith}
-use borrow.Author.Tests.{eq-eqb, ne-eqb}
 use lib.Dec.{eqb}
 use lib.ListN.{length}
 use Rattle.bitset.specs.Sets.{member, removed}
-use Rattle.bitset.proofs.SetLaws.{length-removed, member-removed}
+use Rattle.bitset.proofs.SetLaws.{same-either-way, length-removed, member-removed}
 use Rattle.dataflow.specs.Lists.{elem}
 use Rattle.dataflow.specs.Analyses.{initTransfer, liveTransfer}
 use Rattle.dataflow.specs.Code.{Instruction, instructionAt, program}
@@ -32,16 +30,13 @@ member-removed-all [] ws w k q a = refl
 member-removed-all (x ∷ l) ws w k q a =
     let h = a .0 in
     member-removed-all l (removed ws x) w k (length-removed ws x ∙ q) (a .1)
-    ∙ ap (λ (t : Bool). not (elem k l) && t) (member-removed ws x (omega arith) k) ∙ go (ℕ-discrete k x)
+    ∙ ap (λ (t : Bool). not (elem k l) && t) (member-removed ws x (omega arith) k ∙ ap (λ (t : Bool). not t && member ws k) (same-either-way x k))
+    ∙ swap (eqb k x) (elem k l) (member ws k)
   where
     swap : (p e t : Bool) → (not e && (not p && t)) ≡ (not (p || e) && t)
     swap true true t = refl
     swap true false t = refl
     swap false e t = refl
-
-    go : Dec (k ≡ x) → (not (elem k l) && (not (eqb x k) && member ws k)) ≡ (not (eqb k x || elem k l) && member ws k)
-    go (yes e) = rw (eq-eqb x k (sym e), eq-eqb k x e) (swap true (elem k l) (member ws k))
-    go (no e) = rw (ne-eqb x k (λ q. e (sym q)), ne-eqb k x e) (swap false (elem k l) (member ws k))
 
 module _ (code : List Instruction) (parameter : ℕ → Bool) (i w : ℕ) (ws : List ℕ) (f : ℕ → Bool) (outs : List ℕ)
     (long : length ws ≡ w) (o : instructionAt code i .outputs ≡ outs) (below : AllBelow (64 * w) outs) (means : Means w ws f) where

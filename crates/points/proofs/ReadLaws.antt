@@ -1,8 +1,8 @@
 -- The reads of a block's instructions one by one: the charge of each, its inputs, and its output put into the running set. Assumes nothing.
 use mathlib.Core.Path.{_≡_, refl, sym, ap, ap₂, subst, _∙_}
-use mathlib.Core.Bool.{Bool, true, false, not, _&&_, true≢false}
+use mathlib.Core.Bool.{Bool, true, false, not, true≢false}
 use mathlib.Core.List.{List, [], _∷_}
-use Prim.Native.Nat.{ℕ, zero, suc, _+_, _*_, _-_, _≤_, _<_}
+use Prim.Native.Nat.{ℕ, suc, _+_, _*_, _-_, _≤_, _<_}
 use native.Mathlib.Omega.{arith}
 use lib.ListN.{length, getD}
 use Rattle.bitset.specs.Sets.{member}
@@ -10,8 +10,8 @@ use Rattle.dataflow.specs.Lists.{pick, range, every, keep}
 use Rattle.dataflow.specs.Analyses.{initTransfer}
 use Rattle.dataflow.specs.Code.{Instruction, instructionAt, program}
 use Rattle.dataflow.specs.Verdict.{awaitAt}
-use Rattle.dataflow.proofs.Bools.{not-yes}
-use Rattle.dataflow.proofs.Lists.{keep-both}
+use Rattle.dataflow.proofs.Bools.{not-yes, not-true}
+use Rattle.dataflow.proofs.Lists.{keep-both, every-at, every-to, mem-getD, mem-place}
 use Rattle.budget.specs.declared.FlowBudget.{FlowBudget}
 use Rattle.budget.specs.declared.Limits.{Limits}
 use Rattle.budget.specs.declared.Charged.{Charged}
@@ -32,10 +32,10 @@ use Rattle.instructions.specs.Placed.{Stands, placedAt}
 use Rattle.bitset.specs.Below.{AllBelow}
 use Rattle.instructions.specs.Sets.{insertedAll}
 use Rattle.instructions.specs.Sound.{codeOffset}
+use Rattle.instructions.proofs.Below.{below-getD}
 use Rattle.script.specs.Script.{listOf, flowCode, hostIn}
 use Rattle.script.proofs.ScriptLaws.{code-at}
 use Rattle.leaders.proofs.LeaderLaws.{readable-at}
-use Rattle.leaders.proofs.MarkLaws.{below-at}
 use Rattle.blocks.proofs.ReadLaws.{stands-at, flow-inputs, flow-outputs, inputs-at, output-at}
 use Rattle.blocks.proofs.TransferLaws.{range-more}
 use Rattle.points.specs.declared.reads.Reads.{Reads}
@@ -46,23 +46,7 @@ use Rattle.points.specs.Rows.{Coded, awaitsAmong, readsOf, ReadsChecked}
 use Rattle.points.specs.Slots.{awaitCount}
 use Rattle.points.proofs.MeansLaws.{means-init}
 
--- ---- lists
-
--- one that fails
-pub every-missing : (f : ℕ → Bool) (l : List ℕ) (k : ℕ) → k < length l → f (getD l k 0) ≡ false → every f l ≡ false
-every-missing f [] k h e = absurd (omega arith)
-every-missing f (x ∷ l) zero h e = ap (λ (t : Bool). t && every f l) e
-every-missing f (x ∷ l) (suc k) h e = ap (λ (t : Bool). f x && t) (every-missing f l k (omega arith) e) ∙ and-no (f x)
-  where
-    and-no : (t : Bool) → (t && false) ≡ false
-    and-no true = refl
-    and-no false = refl
-
--- none that fails
-pub every-there : (f : ℕ → Bool) (l : List ℕ) → ((k : ℕ) → k < length l → f (getD l k 0) ≡ true) → every f l ≡ true
-every-there f [] h = refl
-every-there f (x ∷ l) h =
-    ap (λ (t : Bool). t && every f l) (h 0 (omega arith)) ∙ every-there f l (λ k g. h (suc k) (omega arith))
+-- ---- awaits counted
 
 -- the awaits up to pc, and the one there
 pub awaits-more : (code : List Instruction) (start pc k : ℕ) → start ≤ pc → awaitAt code pc ≡ isAwait k
@@ -83,11 +67,6 @@ counted-once k n e = go (isAwait k) e
     go : (t : Bool) → n ≡ pick t 1 0 → n ≤ 1
     go true q = omega arith
     go false q = omega arith
-
--- not missing
-pub not-missing : (t b : Bool) → t ≡ not b → t ≡ false → b ≡ true
-not-missing t true e f = refl
-not-missing t false e f = absurd (true≢false (sym e ∙ f))
 
 -- ---- what is read at pc
 
@@ -143,14 +122,17 @@ module _ (s : List ℕ) (x : Script) (y : Layout) (m : Mem) (ok : Coded s x y m)
 -- ---- a row of w words that stands for a set
 
 -- an input that is missing
-pub means-missing : (w : ℕ) (ws : List ℕ) (f : ℕ → Bool) → Means w ws f → (l : List ℕ) (k : ℕ) → AllBelow (64 * w) l → k < length l
+means-missing : (w : ℕ) (ws : List ℕ) (f : ℕ → Bool) → Means w ws f → (l : List ℕ) (k : ℕ) → AllBelow (64 * w) l → k < length l
     → member ws (getD l k 0) ≡ false → every f l ≡ false
-means-missing w ws f g l k b h e = every-missing f l k h (sym (g (getD l k 0) (below-at (64 * w) l k b h)) ∙ e)
+means-missing w ws f g l k b h e =
+    not-true (every f l) (λ q. true≢false (sym (every-at f l q (getD l k 0) (mem-getD l k 0 h)) ∙ sym (g (getD l k 0) (below-getD (64 * w) l k 0 b h)) ∙ e))
 
 -- all inputs are there
-pub means-there : (w : ℕ) (ws : List ℕ) (f : ℕ → Bool) → Means w ws f → (l : List ℕ) → AllBelow (64 * w) l
+means-there : (w : ℕ) (ws : List ℕ) (f : ℕ → Bool) → Means w ws f → (l : List ℕ) → AllBelow (64 * w) l
     → ((k : ℕ) → k < length l → member ws (getD l k 0) ≡ true) → every f l ≡ true
-means-there w ws f g l b e = every-there f l (λ k h. sym (g (getD l k 0) (below-at (64 * w) l k b h)) ∙ e k h)
+means-there w ws f g l b e =
+    every-to f l (λ a m. let k = mem-place l a 0 m in
+    ap f (sym (k .2)) ∙ sym (g (getD l (k .0) 0) (below-getD (64 * w) l (k .0) 0 b (k .1))) ∙ e (k .0) (k .1))
 
 -- ---- after the instructions from start to pc
 

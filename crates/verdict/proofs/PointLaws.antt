@@ -18,7 +18,7 @@ use Rattle.dataflow.specs.Code.{Instruction, program, body, blockGraph}
 use Rattle.dataflow.specs.Checked.{Checked}
 use Rattle.dataflow.specs.Results.{blockCount, reachable, liveExit}
 use Rattle.dataflow.specs.Verdict.{awaitAt, accepts}
-use Rattle.dataflow.proofs.Lists.{mem-range, keep-append}
+use Rattle.dataflow.proofs.Lists.{mem-range, range-bounds, keep-append, keep-mem}
 use Rattle.dataflow.proofs.BlockPaths.{entry-place, reached-point}
 use Rattle.dataflow.proofs.Leaders.{blocks-cover}
 use Rattle.dataflow.proofs.CodeBlocks.{basic-blocks}
@@ -28,7 +28,7 @@ use Rattle.dataflow.proofs.Verdict.{accepts-iff}
 use Rattle.verdict.specs.Points.{Point, awaitPoints, blockPoints, points}
 use Rattle.verdict.specs.Ascending.{Ascending, instructionsOf}
 use Rattle.verdict.proofs.Sublists.{Sublist, done, sublist-none, sublist-self, sublist-append, sublist-length, sublist-mem, sublist-ascending}
-use Rattle.verdict.proofs.Sublists.{keep-sublist, keep-passes, range-bounds, range-ascending}
+use Rattle.verdict.proofs.Sublists.{keep-sublist, range-ascending}
 
 module _ (code : List Instruction) (parameter : ℕ → Bool) where
   abbrev p : Program ℕ ℕ
@@ -98,14 +98,14 @@ module _ (code : List Instruction) (parameter : ℕ → Bool) where
 
     -- a point is an await,
     pub point-await : (pt : Point) → List·Memᴰ pt (points code parameter words) → awaitAt code (pt .instruction) ≡ true
-    point-await pt m = keep-passes (awaitAt code) (range 0 (length code)) (pt .instruction) (listed pt m)
+    point-await pt m = keep-mem (awaitAt code) (range 0 (length code)) (pt .instruction) (listed pt m) .1
 
     -- of the code
     pub point-below : (pt : Point) → List·Memᴰ pt (points code parameter words) → pt .instruction < length code
     point-below pt m = omega (
       arith,
       range-bounds 0 (length code) (pt .instruction)
-          (sublist-mem (keep-sublist (awaitAt code) (range 0 (length code))) (pt .instruction) (listed pt m)) .1,
+          (keep-mem (awaitAt code) (range 0 (length code)) (pt .instruction) (listed pt m) .0) .1,
     )
 
   -- ── Their places ──

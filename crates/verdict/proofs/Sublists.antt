@@ -1,12 +1,13 @@
 -- Lists with some numbers left out. Assumes nothing.
-use mathlib.Core.Path.{_≡_, refl, _∙_, ap}
+use mathlib.Core.Path.{_≡_}
 use mathlib.Core.Bool.{Bool, true, false}
-use mathlib.Core.List.{List, [], _∷_, _++_, List·Memᴰ, List·Memᴰ·head, List·Memᴰ·tail, List·Memᴰ·not-nil, List·Memᴰ·cases-cons}
+use mathlib.Core.List.{List, [], _∷_, _++_, List·Memᴰ, List·Memᴰ·head, List·Memᴰ·tail, List·Memᴰ·cases-cons}
 use mathlib.Core.Logic.{_⊎_, inl, inr}
-use Prim.Native.Nat.{ℕ, zero, suc, _+_, _≤_, _<_}
+use Prim.Native.Nat.{ℕ, zero, suc, _+_, _≤_}
 use native.Mathlib.Omega.{arith}
 use lib.ListN.{length}
 use Rattle.dataflow.specs.Lists.{pick, range, keep}
+use Rattle.dataflow.proofs.Lists.{range-bounds}
 use Rattle.verdict.specs.Ascending.{Ascending}
 
 -- the first list is the second with some numbers left out
@@ -64,31 +65,9 @@ keep-sublist f (x ∷ l) = go (f x) (keep-sublist f l)
     go true s = take s
     go false s = skip s
 
--- what is kept passes the test
-pub keep-passes : (f : ℕ → Bool) (l : List ℕ) (y : ℕ) → List·Memᴰ y (keep f l) → f y ≡ true
-keep-passes f [] y m = absurd (List·Memᴰ·not-nil m)
-keep-passes f (x ∷ l) y m = go (f x) refl m (λ m′. keep-passes f l y m′)
-  where
-    here : f x ≡ true → (y ≡ x) ⊎ List·Memᴰ y (keep f l) → (List·Memᴰ y (keep f l) → f y ≡ true) → f y ≡ true
-    here e (inl q) below = ap f q ∙ e
-    here e (inr m′) below = below m′
-
-    go : (t : Bool) → f x ≡ t → List·Memᴰ y (pick t (x ∷ keep f l) (keep f l)) → (List·Memᴰ y (keep f l) → f y ≡ true) → f y ≡ true
-    go true e m below = here e (List·Memᴰ·cases-cons m) below
-    go false e m below = below m
-
 -- ── Ranges ──
 
--- the numbers of a range lie in it
-pub range-bounds : (k n y : ℕ) → List·Memᴰ y (range k n) → (k ≤ y) × (y < k + n)
-range-bounds k zero y m = absurd (List·Memᴰ·not-nil m)
-range-bounds k (suc n) y m = go (List·Memᴰ·cases-cons m) (λ m′. range-bounds (suc k) n y m′)
-  where
-    go : (y ≡ k) ⊎ List·Memᴰ y (range (suc k) n) → (List·Memᴰ y (range (suc k) n) → (suc k ≤ y) × (y < suc k + n)) → (k ≤ y) × (y < k + suc n)
-    go (inl e) below = (omega (arith, e), omega (arith, e))
-    go (inr m′) below = let z = below m′ in (omega (arith, z .0), omega (arith, z .1))
-
--- and ascend
+-- the numbers of a range ascend
 pub range-ascending : (k n : ℕ) → Ascending (range k n)
 range-ascending k zero = tt
 range-ascending k (suc n) = ((λ y m. range-bounds (suc k) n y m .0), range-ascending (suc k) n)

@@ -1,5 +1,5 @@
 -- `blocks::successors::link_target` meets its contract. Assumes nothing.
-use mathlib.Core.Path.{ap, _∙_}
+use mathlib.Core.Path.{sym, ap, _∙_}
 use Prim.Native.Nat.{ℕ}
 use native.Mathlib.Omega.{arith}
 use denote.Ref.{now}
@@ -7,9 +7,10 @@ use borrow.Author.Needs.{needs}
 use Rattle.memory.specs.Cells.{word, store}
 use Rattle.memory.specs.Names.{blockOfCell, successorCell}
 use Rattle.memory.specs.Scratch.{scratch}
-use Rattle.operands.specs.Instructions.{valuesOf}
+use Rattle.operands.specs.Instructions.{valuesOf, targetIn}
 use Rattle.operands.specs.Operands.{targetsOf}
-use Rattle.leaders.proofs.MarkLaws.{target-there, target-missing, below-at}
+use Rattle.instructions.proofs.Below.{below-getD}
+use Rattle.leaders.proofs.MarkLaws.{operand-there, operand-missing}
 use Rattle.blocks.proofs.successors.link_target.Statement.{statement}
 use Rattle.blocks.proofs.successors.link_target.Tie as tie
 
@@ -27,7 +28,7 @@ returns c =
     let pre = c .before .before .before .before .before .pre in
     let target = c .before .before .target in
     let told = c .enum-told in
-    absurd (target-missing _ _ _ (target .ensures) (pre .4) (told .given .1))
+    absurd (operand-missing _ _ (pre .4) (ap targetIn (sym (told .given .1)) ∙ target .ensures))
 
 index-requires : tie.Need-index-requires
 index-requires c κs = search needs
@@ -40,8 +41,8 @@ link-requires c κs =
     let target = c .before .before .before .before .before .target in
     let target-read = c .before .before .before .t in
     let ts = targetsOf (args .i .pattern .kind) (valuesOf (now (args .sheet)) (args .i)) in
-    let e = index .ensures ∙ target-there _ ts (args .k) (target .ensures) (pre .4) _ (target-read .given .1) in
-    (pre .1, pre .2, omega (arith, e, below-at (args .y .instructions) ts (args .k) (pre .3) (pre .4)))
+    let e = index .ensures ∙ operand-there ts (args .k) (pre .4) _ (ap targetIn (sym (target-read .given .1)) ∙ target .ensures) in
+    (pre .1, pre .2, omega (arith, e, below-getD (args .y .instructions) ts (args .k) 0 (pre .3) (pre .4)))
 
 same-length : tie.Need-same-length
 same-length c = search needs
@@ -55,7 +56,7 @@ returns-2 c =
     let target-read = c .before .before .before .before .before .before .t in
     let link = c .before .before .link in
     let ts = targetsOf (args .i .pattern .kind) (valuesOf (now (args .sheet)) (args .i)) in
-    let e = index .ensures ∙ target-there _ ts (args .k) (target .ensures) (pre .4) _ (target-read .given .1) in
+    let e = index .ensures ∙ operand-there ts (args .k) (pre .4) _ (ap targetIn (sym (target-read .given .1)) ∙ target .ensures) in
     let m = scratch (args .y) (now (args .s)) in
     link .ensures ∙ ap (λ (j : ℕ). store m successorCell (args .edge) (word m blockOfCell j)) e
 

@@ -1,14 +1,14 @@
 -- `blocks::transfer::use_input` meets its contract. Assumes nothing.
-use mathlib.Core.Path.{_∙_}
+use mathlib.Core.Path.{sym, ap, _∙_}
 use native.Mathlib.Omega.{arith}
 use denote.Ref.{now}
 use borrow.Author.Needs.{needs}
 use Rattle.memory.specs.Scratch.{scratch}
-use Rattle.operands.specs.Instructions.{valuesOf}
+use Rattle.operands.specs.Instructions.{valuesOf, slotIn}
 use Rattle.operands.specs.Operands.{inputsOf}
-use Rattle.blocks.proofs.OperandLaws.{slot-there, slot-missing}
 use Rattle.blocks.proofs.UseLaws.{used-one}
-use Rattle.leaders.proofs.MarkLaws.{below-at}
+use Rattle.instructions.proofs.Below.{below-getD}
+use Rattle.leaders.proofs.MarkLaws.{operand-there, operand-missing}
 use Rattle.blocks.proofs.transfer.use_input.Statement.{statement}
 use Rattle.blocks.proofs.transfer.use_input.Tie as tie
 
@@ -26,7 +26,7 @@ returns c =
     let pre = c .before .before .before .before .before .pre in
     let slot-input = c .before .before .slot-input in
     let told = c .enum-told in
-    absurd (slot-missing _ _ _ (slot-input .ensures) (pre .4) (told .given .1))
+    absurd (operand-missing _ _ (pre .4) (ap slotIn (sym (told .given .1)) ∙ slot-input .ensures))
 
 uses-requires : tie.Need-uses-requires
 uses-requires c κs = search needs
@@ -47,7 +47,7 @@ insert-unless-requires c κs =
     let uses = c .before .before .uses in
     let defines = c .before .defines in
     let l = inputsOf (args .i .pattern .kind) (valuesOf (now (args .sheet)) (args .i)) in
-    let e = index .ensures ∙ slot-there _ l (args .k) (slot-input .ensures) (pre .4) _ (slot-read .given .1) in (
+    let e = index .ensures ∙ operand-there l (args .k) (pre .4) _ (ap slotIn (sym (slot-read .given .1)) ∙ slot-input .ensures) in (
       pre .1,
       record { low = omega (arith, uses .ensures); high = omega (arith, uses .ensures, pre .2) },
       record {
@@ -55,7 +55,7 @@ insert-unless-requires c κs =
             (arith, defines .ensures);
         high = omega (arith, defines .ensures, pre .2);
       },
-      omega (arith, e, below-at _ l (args .k) (pre .3) (pre .4)),
+      omega (arith, e, below-getD _ l (args .k) 0 (pre .3) (pre .4)),
     )
 
 same-length : tie.Need-same-length
@@ -72,7 +72,7 @@ returns-2 c =
     let defines = c .before .before .before .before .defines in
     let insert-unless = c .before .before .insert-unless in
     let l = inputsOf (args .i .pattern .kind) (valuesOf (now (args .sheet)) (args .i)) in
-    let e = index .ensures ∙ slot-there _ l (args .k) (slot-input .ensures) (pre .4) _ (slot-read .given .1) in
+    let e = index .ensures ∙ operand-there l (args .k) (pre .4) _ (ap slotIn (sym (slot-read .given .1)) ∙ slot-input .ensures) in
     used-one (args .block) (scratch (args .y) (now (args .s))) _ _ _ _ _ (uses .ensures) (defines .ensures) e (insert-unless .ensures)
 
 pub use-input-spec : {M : Type 1} → statement M

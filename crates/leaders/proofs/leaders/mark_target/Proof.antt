@@ -1,5 +1,5 @@
 -- `leaders::leaders::mark_target` meets its contract. Assumes nothing.
-use mathlib.Core.Path.{ap, _∙_}
+use mathlib.Core.Path.{sym, ap, _∙_}
 use Prim.Native.Nat.{ℕ}
 use native.Mathlib.Omega.{arith}
 use denote.Ref.{now}
@@ -7,9 +7,10 @@ use borrow.Author.Needs.{needs}
 use Rattle.memory.specs.Cells.{store}
 use Rattle.memory.specs.Names.{blockOfCell}
 use Rattle.memory.specs.Scratch.{scratch}
-use Rattle.operands.specs.Instructions.{valuesOf}
+use Rattle.operands.specs.Instructions.{valuesOf, targetIn}
 use Rattle.operands.specs.Operands.{targetsOf}
-use Rattle.leaders.proofs.MarkLaws.{target-there, target-missing, below-at}
+use Rattle.instructions.proofs.Below.{below-getD}
+use Rattle.leaders.proofs.MarkLaws.{operand-there, operand-missing}
 use Rattle.memory.proofs.ScratchLaws.{place-instructions}
 use Rattle.leaders.proofs.leaders.mark_target.Statement.{statement}
 use Rattle.leaders.proofs.leaders.mark_target.Tie as tie
@@ -25,7 +26,7 @@ enum-told c = search needs
 
 returns : tie.Need-returns
 returns c =
-    absurd (target-missing _ _ _ (c .before .before .target .ensures) (c .before .before .before .before .before .pre .3) (c .enum-told .given .1))
+    absurd (operand-missing _ _ (c .before .before .before .before .before .pre .3) (ap targetIn (sym (c .enum-told .given .1)) ∙ c .before .before .target .ensures))
 
 index-requires : tie.Need-index-requires
 index-requires c κs = search needs
@@ -33,8 +34,8 @@ index-requires c κs = search needs
 put-requires : tie.Need-put-requires
 put-requires c κs =
     let ts = targetsOf (c .before .before .before .before .before .before .before .before .args .i .pattern .kind) (valuesOf (now (c .before .before .before .before .before .before .before .before .args .sheet)) (c .before .before .before .before .before .before .before .before .args .i)) in
-    let e = c .index .ensures ∙ target-there _ ts (c .before .before .before .before .before .before .before .before .args .k) (c .before .before .before .before .before .target .ensures) (c .before .before .before .before .before .before .before .before .pre .3) _ (c .before .before .before .t .given .1) in
-    (search needs, place-instructions (c .before .before .before .before .before .before .before .before .args .y) 1 _ (omega arith) (omega (arith, e, below-at (c .before .before .before .before .before .before .before .before .args .y .instructions) ts (c .before .before .before .before .before .before .before .before .args .k) (c .before .before .before .before .before .before .before .before .pre .2) (c .before .before .before .before .before .before .before .before .pre .3))))
+    let e = c .index .ensures ∙ operand-there ts (c .before .before .before .before .before .before .before .before .args .k) (c .before .before .before .before .before .before .before .before .pre .3) _ (ap targetIn (sym (c .before .before .before .t .given .1)) ∙ c .before .before .before .before .before .target .ensures) in
+    (search needs, place-instructions (c .before .before .before .before .before .before .before .before .args .y) 1 _ (omega arith) (omega (arith, e, below-getD (c .before .before .before .before .before .before .before .before .args .y .instructions) ts (c .before .before .before .before .before .before .before .before .args .k) 0 (c .before .before .before .before .before .before .before .before .pre .2) (c .before .before .before .before .before .before .before .before .pre .3))))
 
 same-length : tie.Need-same-length
 same-length c = search needs
@@ -42,7 +43,7 @@ same-length c = search needs
 returns-2 : tie.Need-returns-2
 returns-2 c =
     let ts = targetsOf (c .before .before .before .before .before .before .before .before .before .before .before .args .i .pattern .kind) (valuesOf (now (c .before .before .before .before .before .before .before .before .before .before .before .args .sheet)) (c .before .before .before .before .before .before .before .before .before .before .before .args .i)) in
-    let e = c .before .before .before .index .ensures ∙ target-there _ ts (c .before .before .before .before .before .before .before .before .before .before .before .args .k) (c .before .before .before .before .before .before .before .before .target .ensures) (c .before .before .before .before .before .before .before .before .before .before .before .pre .3) _ (c .before .before .before .before .before .before .t .given .1) in
+    let e = c .before .before .before .index .ensures ∙ operand-there ts (c .before .before .before .before .before .before .before .before .before .before .before .args .k) (c .before .before .before .before .before .before .before .before .before .before .before .pre .3) _ (ap targetIn (sym (c .before .before .before .before .before .before .t .given .1)) ∙ c .before .before .before .before .before .before .before .before .target .ensures) in
     c .before .before .put .ensures ∙ ap (λ (j : ℕ). store (scratch (c .before .before .before .before .before .before .before .before .before .before .before .args .y) (now (c .before .before .before .before .before .before .before .before .before .before .before .args .s))) blockOfCell j 1) e
 
 pub mark-target-spec : {M : Type 1} → statement M

@@ -8,6 +8,7 @@ use borrow.Author.Count.{below-more}
 use denote.Ref.{now}
 use lib.ListN.{length, getD}
 use Rattle.bitset.specs.Sets.{member}
+use Rattle.dataflow.proofs.Bools.{not-no}
 use Rattle.memory.specs.Cells.{cell}
 use Rattle.memory.specs.Names.{stateRow}
 use Rattle.memory.specs.Scratch.{scratch, Room, Row}
@@ -18,11 +19,10 @@ use Rattle.script.specs.Script.{flowCode, parameterIn}
 use Rattle.sheet.specs.Decode.{partsOf}
 use Rattle.blocks.proofs.OperandLaws.{inputs-few}
 use Rattle.points.proofs.ReadLaws.{Reading, reading-none, reading-more, reads-filled, reads-over, reads-unfilled}
-use Rattle.points.proofs.ReadLaws.{coded-kept, noted-cost, noted-stands, noted-read, counted-once, not-missing}
+use Rattle.points.proofs.ReadLaws.{coded-kept, noted-cost, noted-stands, noted-read, counted-once}
 use borrow.Author.Needs.{needs}
 use Rattle.points.proofs.reads.check_reads.Statement.{statement}
 use Rattle.points.proofs.reads.check_reads.Tie as tie
-use Rattle.points.proofs.reads.check_reads.Reads as reads
 
 abbrev Inv-loop : tie.InvT-loop
 Inv-loop sheet s y start end limits state left awaits pc cost at p k₀ k = (k + 1 ≤ cost) × ((j : ℕ) → j < k → member (cell (scratch y s) state)
@@ -219,7 +219,7 @@ loop-again c =
       omega (arith, inner .taken),
       below-more (λ (j : ℕ). member (cell (scratch (args .y) (block .s)) (state .result)) (getD (inputsOf (placed
           .result .instruction .pattern .kind) (valuesOf (now (args .sheet)) (placed .result .instruction))) j 0) ≡ true) (loop .k) (loop .inv .1)
-          (not-missing _ _ (misses .ensures) (if1 .left)),
+          (not-no _ (sym (misses .ensures) ∙ if1 .left)),
     )
 
 -- src/reads.rt:62:9
