@@ -13,7 +13,7 @@ use borrow.Author.Tests.{lt-ltb, le-ltb}
 use Rattle.bitset.specs.Sets.{member}
 use Rattle.dataflow.specs.Lists.{pick}
 use Rattle.dataflow.specs.Blocks.{uses, defines}
-use Rattle.dataflow.specs.Code.{Instruction, instructionAt, successors, program, lastOr, indexOf, leaders, body, blockSuccessors}
+use Rattle.dataflow.specs.Code.{Instruction, successors, program, lastOr, indexOf, leaders, body, blockSuccessors}
 use Rattle.dataflow.specs.Results.{blockCount}
 use Rattle.dataflow.proofs.Leaders.{leaders-count}
 use Rattle.dataflow.proofs.Lists.{map-at, mem-getD}
@@ -31,20 +31,20 @@ use Rattle.budget.specs.declared.Charged.the-variants.{Ok}
 use Rattle.budget.specs.Budget.{charged}
 use Rattle.operands.specs.Kinds.{endsBlock}
 use Rattle.operands.specs.Operands.{targetsOf}
-use Rattle.operands.specs.Instructions.{Readable, valuesOf}
+use Rattle.operands.specs.Instructions.{valuesOf}
 use Rattle.sheet.specs.declared.script.Script.{Script}
 use Rattle.sheet.specs.Decode.{partsOf}
 use Rattle.instructions.specs.declared.placed.Placed.{Placed}
-use Rattle.instructions.specs.Placed.{placedAt}
-use Rattle.bitset.specs.Below.{AllBelow}
-use Rattle.instructions.specs.Sound.{codeOffset}
+use Rattle.instructions.specs.Placed.{Stands, placedAt}
+use Rattle.instructions.specs.Sets.{AllBelow}
 use Rattle.script.specs.Script.{flowCode, parameterIn}
 use Rattle.script.proofs.ScriptLaws.{code-length, checked}
-use Rattle.leaders.proofs.LeaderLaws.{readable-at, targets-at}
+use Rattle.leaders.proofs.LeaderLaws.{targets-at}
 use Rattle.blocks.specs.Words.{endOf, spanned, nextOf, putEdges}
 use Rattle.blocks.specs.Rows.{Transfer, transferAll, costOf, rowsAt, Transferred}
 use Rattle.blocks.specs.Blocks.{Ready, Block, BuiltOne}
-use Rattle.blocks.proofs.ReadLaws.{flow-ends, flow-targets, inputs-everywhere, outputs-everywhere, targets-everywhere}
+use Rattle.blocks.proofs.ReadLaws.{Read, inputs-everywhere, outputs-everywhere, targets-everywhere}
+use Rattle.blocks.proofs.TransferLaws.{offset-is, noted-stands, noted-read}
 use Rattle.blocks.proofs.CodeLaws.{starts-up, Spans, spans-at, few-successors, behind-inside, next-leads}
 use Rattle.blocks.proofs.EdgeLaws.{edges-other, edges-counted, counts-other, edges-lead, edges-unused, edges-before}
 use Rattle.blocks.proofs.MemberLaws.{members-from-none}
@@ -73,7 +73,7 @@ pub record Emptied (code : List Instruction) (y : Layout) (b : ℕ) (m m₂ : Me
   pub defines-none : cell m₂ (definesRow b) ≡ replicate (y .words) 0
   pub others : (k : ℕ) → k ≢ startCell → k ≢ endCell → k ≢ usesRow b → k ≢ definesRow b → cell m₂ k ≡ cell m k
 
-module _ (s : List ℕ) (x : Script) (y : Layout) (m : Mem) (ok : Ready s x y m) (b : ℕ) (hb : b < y .blocks) where
+module _ {s : List ℕ} {x : Script} {y : Layout} {m : Mem} (ok : Ready s x y m) {b : ℕ} (hb : b < y .blocks) where
   abbrev code : List Instruction
   code = flowCode (partsOf s)
 
@@ -95,7 +95,7 @@ module _ (s : List ℕ) (x : Script) (y : Layout) (m : Mem) (ok : Ready s x y m)
           (ok .fits .instructions ∙ sym (code-length s x (ok .sound))
           ∙ sym (List·getD-eq-default (leaders code) (length code) {n = suc b} (omega (arith, leaders-count code, ok .fits .blocks))))
 
-  module _ (z : Sized (scratchWidths y) m) (m₁ m₂ : Mem) (e₁ : m₁ ≡ spanned y b m)
+  module _ (z : Sized (scratchWidths y) m) {m₁ m₂ : Mem} (e₁ : m₁ ≡ spanned y b m)
       (e₂ : m₂ ≡ storeCell (storeCell m₁ (usesRow b) (replicate (y .words) 0)) (definesRow b) (replicate (y .words) 0)) where
     begun : Mem
     begun = store m startCell b (word m leaderCell b)
@@ -155,7 +155,7 @@ module _ (s : List ℕ) (x : Script) (y : Layout) (m : Mem) (ok : Ready s x y m)
 
   -- ---- its instructions
 
-  module _ (m₂ : Mem) (em : Emptied (flowCode (partsOf s)) y b m m₂) (start end : ℕ) (p : start ≡ word m₂ startCell b)
+  module _ {m₂ : Mem} (em : Emptied (flowCode (partsOf s)) y b m m₂) {start end : ℕ} (p : start ≡ word m₂ startCell b)
       (q : end ≡ word m₂ endCell b) where
     pub spans : Spans (flowCode (partsOf s)) b start end
     spans = spans-at code (parameterIn (partsOf s)) (x .slots) (checked s x (ok .sound)) b start end some-block (p ∙ em .start) (q ∙ em .end)
@@ -166,28 +166,26 @@ module _ (s : List ℕ) (x : Script) (y : Layout) (m : Mem) (ok : Ready s x y m)
     pub offsets-kept : cell m₂ offsetCell ≡ cell m offsetCell
     offsets-kept = em .others offsetCell (λ w. omega arith) (λ w. omega arith) (λ w. omega arith) (λ w. omega arith)
 
+    pub last-inside : end - 1 < y .instructions
+    last-inside = omega (arith, spans .some, end-inside)
+
+    pub last-stands : {at : ℕ} → at ≡ word m₂ offsetCell (end - 1) → Stands s at
+    last-stands ea = noted-stands ok m₂ offsets-kept (end - 1) last-inside ea
+
     -- the last of them, as it is read
-    module _ (at : ℕ) (ea : at ≡ word m₂ offsetCell (end - 1)) (i : Placed) (ei : i ≡ placedAt s at) where
-      last-there : end - 1 < x .count
-      last-there = omega (arith, spans .some, end-inside, ok .fits .instructions)
-
-      offset-is : at ≡ codeOffset s x (end - 1)
-      offset-is = ea ∙ same-word (end - 1) offsets-kept ∙ ok .index .offsets (end - 1) last-there
-
-      pub last-readable : Readable s (i .instruction)
-      last-readable = readable-at s x (ok .sound) (end - 1) at i ei offset-is last-there
+    module _ {at : ℕ} (ea : at ≡ word m₂ offsetCell (end - 1)) {i : Placed} (ei : i ≡ placedAt s at) where
+      pub last-read : Read s (y .words) (end - 1) i
+      last-read = noted-read ok m₂ offsets-kept (end - 1) last-inside ea ei
 
       pub last-targets : AllBelow (y .instructions) (targetsOf (i .instruction .pattern .kind) (valuesOf s (i .instruction)))
       last-targets =
           subst (λ (n : ℕ). AllBelow n (targetsOf (i .instruction .pattern .kind) (valuesOf s (i .instruction)))) (sym (ok .fits .instructions))
-          (targets-at s x (ok .sound) (end - 1) at i ei offset-is last-there)
-
-      last-ends : instructionAt code (end - 1) .ends ≡ endsBlock (i .instruction .pattern .kind)
-      last-ends = flow-ends s x (ok .sound) (end - 1) at offset-is last-there i ei
+          (targets-at (ok .sound) (end - 1) ei (offset-is ok m₂ offsets-kept (end - 1) last-inside ea)
+          (omega (arith, last-inside, ok .fits .instructions)))
 
       pub last-behind : endsBlock (i .instruction .pattern .kind) ≡ false → end < y .instructions
       last-behind f =
-          let l = behind-inside code (parameterIn (partsOf s)) (x .slots) (checked s x (ok .sound)) b start end some-block spans (last-ends ∙ f) in
+          let l = behind-inside code (parameterIn (partsOf s)) (x .slots) (checked s x (ok .sound)) b start end some-block spans (last-read .ends-are ∙ f) in
           omega (arith, l, ok .fits .instructions, code-length s x (ok .sound))
 
       -- where control goes is where the edges are put
@@ -195,11 +193,11 @@ module _ (s : List ℕ) (x : Script) (y : Layout) (m : Mem) (ok : Ready s x y m)
           ≡ successors (flowCode (partsOf s)) (end - 1)
       last-next =
           let e : end ≡ suc (end - 1) = omega (arith, spans .some) in
-          rw (last-ends, flow-targets s x (ok .sound) (end - 1) at offset-is last-there i ei, ← e) refl
+          rw (last-read .ends-are, last-read .targets-are, ← e) refl
 
     -- ---- the edges put, and the instructions gone through
 
-    module _ (z₂ : Sized (scratchWidths y) m₂) (nexts : List ℕ) (en : nexts ≡ successors (flowCode (partsOf s)) (end - 1)) (m₃ : Mem)
+    module _ (z₂ : Sized (scratchWidths y) m₂) {nexts : List ℕ} (en : nexts ≡ successors (flowCode (partsOf s)) (end - 1)) {m₃ : Mem}
         (e₃ : m₃ ≡ putEdges b nexts m₂) where
       cell₃ : (k : ℕ) → k ≢ successorCountCell → k ≢ successorCell → cell m₃ k ≡ cell m₂ k
       cell₃ k f g = ap (λ (w : Mem). cell w k) e₃ ∙ edges-other b nexts m₂ k f g
@@ -238,7 +236,7 @@ module _ (s : List ℕ) (x : Script) (y : Layout) (m : Mem) (ok : Ready s x y m)
           ∙ ok .index .numbers (getD nexts k 0) (omega (arith, g .1, code-length s x (ok .sound))) (g .0)
           ∙ sym (same-word k successors-are ∙ map-at (λ (t : ℕ). indexOf t (leaders code)) nexts k 0 0 l)
 
-      module _ (l : Limits) (budget : FlowBudget) (m₄ : Mem) (r : Charged) (t : Transferred (flowCode (partsOf s)) l budget b start end m₃ m₄ r) where
+      module _ {l : Limits} {budget : FlowBudget} {m₄ : Mem} {r : Charged} (t : Transferred (flowCode (partsOf s)) l budget b start end m₃ m₄ r) where
         cell₄ : (k : ℕ) → k ≢ costCell → k ≢ usesRow b → k ≢ definesRow b → k ≢ successorCountCell → k ≢ successorCell → cell m₄ k ≡ cell m₂ k
         cell₄ k f g h p q = t .others k f g h ∙ cell₃ k p q
 

@@ -75,8 +75,8 @@ pub record Building (code : List Instruction) (y : Layout) (l : Limits) (budget 
   pub others : (k : ℕ) → Untouched y k → cell m′ k ≡ cell m k
 
 -- before the first block
-pub building-none : (code : List Instruction) (y : Layout) (l : Limits) (budget : FlowBudget) (m t : Mem) → Building code y l budget budget 0 m m t
-building-none code y l budget m t = record {
+pub building-none : {code : List Instruction} {y : Layout} {l : Limits} {budget : FlowBudget} {m t : Mem} → Building code y l budget budget 0 m m t
+building-none {l = l} {budget = budget} = record {
   charges = charged-none l budget;
   blocks = λ parameter c h. absurd (omega arith);
   fresh = λ c h. absurd (omega arith);
@@ -120,18 +120,18 @@ fresh-more y index t′ t″ h e g c l = go (ℕ-discrete c index)
           live = kept (liveRow c) (λ w. omega arith) (λ w. omega arith) ∙ f .live;
         }
 
-module _ (code : List Instruction) (y : Layout) (l : Limits) (budget left : FlowBudget) (index : ℕ) (m m′ t′ : Mem)
+module _ {code : List Instruction} {y : Layout} {l : Limits} {budget left : FlowBudget} {index : ℕ} {m m′ t′ : Mem}
     (g : Building code y l budget left index m m′ t′) where
   -- all blocks are built
-  pub built-all : (t : Mem) → index ≡ y .blocks → y .blocks ≡ blockCount code → Built code y l budget m m′ t t′ (Ok left)
-  built-all t e f = record {
+  pub built-all : {t : Mem} → index ≡ y .blocks → y .blocks ≡ blockCount code → Built code y l budget m m′ t t′ (Ok left)
+  built-all e f = record {
     charges = sym (g .charges) ∙ ap (λ (n : ℕ). charged l budget (chargesOf code (range 0 n))) (e ∙ f);
     blocks = λ x q parameter c h. g .blocks parameter c (omega arith);
     fresh = λ x q c h. g .fresh c (omega arith);
     others = g .others;
   }
 
-  module _ (h : index < y .blocks) (m″ t″ : Mem) (r : Charged) (o : BuiltOne code l left index m′ m″ r) where
+  module _ (h : index < y .blocks) {m″ : Mem} {r : Charged} (o : BuiltOne code l left index m′ m″ r) where
     others-more : (k : ℕ) → Untouched y k → cell m″ k ≡ cell m k
     others-more k u =
         o .others k (u .0) (u .1) (u .2) (u .3) (u .4) (row (usesRow index) (omega arith) (omega arith) (u .5))
@@ -142,8 +142,8 @@ module _ (code : List Instruction) (y : Layout) (l : Limits) (budget left : Flow
         row j lo hi (inr q) e = omega arith
 
     -- a charge of this block crosses the limit
-    pub built-over : (t : Mem) (x : FlowBudget) → y .blocks ≡ blockCount code → r ≡ Over x → Built code y l budget m m″ t t″ r
-    built-over t x e f = record {
+    pub built-over : {t t″ : Mem} {x : FlowBudget} → y .blocks ≡ blockCount code → r ≡ Over x → Built code y l budget m m″ t t″ r
+    built-over e f = record {
       charges = f ∙ sym (ap (charged l budget) (charges-at code index (blockCount code) (omega arith))
           ∙ met-then l budget _ _ (g .charges) ∙ over-then l left (map (costOf code) (body code index)) _ (sym (o .charges) ∙ f));
       blocks = λ z q. let w : _≡_ {A = ℕ} 0 1 = cc in absurd (omega arith);
@@ -152,10 +152,10 @@ module _ (code : List Instruction) (y : Layout) (l : Limits) (budget left : Flow
     }
 
     -- one block more
-    pub building-more : (left′ : FlowBudget) → r ≡ Ok left′ → 2 * index + 1 < length t′
+    pub building-more : {t″ : Mem} {left′ : FlowBudget} → r ≡ Ok left′ → 2 * index + 1 < length t′
         → t″ ≡ storeCell (storeCell t′ (initializedRow index) (replicate (y .words) ones)) (liveRow index) (replicate (y .words) 0)
         → Building code y l budget left′ (index + 1) m m″ t″
-    building-more left′ f n e = record {
+    building-more {t″} {left′} f n e = record {
       charges = ap (charged l budget) (charges-more code index) ∙ met-then l budget _ _ (g .charges) ∙ sym (o .charges) ∙ f;
       blocks = λ parameter c b. block-at parameter c b (ℕ-discrete c index);
       fresh = fresh-more y index t′ t″ n e (g .fresh);

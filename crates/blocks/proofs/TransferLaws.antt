@@ -2,7 +2,7 @@
 use mathlib.Core.Logic.{_≢_}
 use mathlib.Core.Path.{_≡_, refl, sym, ap, ap₂, _∙_}
 use mathlib.Core.List.{List, [], _∷_, _++_, map, map-append}
-use Prim.Native.Nat.{ℕ, suc, _+_, _*_, _-_, _≤_, _<_}
+use Prim.Native.Nat.{ℕ, suc, _+_, _-_, _≤_, _<_}
 use native.Mathlib.Decide.{ℕ-discrete}
 use native.Mathlib.Omega.{arith}
 use lib.ListN.{length, length-set}
@@ -21,21 +21,14 @@ use Rattle.budget.specs.declared.Charged.{Charged}
 use Rattle.budget.specs.declared.Charged.the-variants.{Ok, Over}
 use Rattle.budget.specs.Budget.{charged}
 use Rattle.budget.proofs.BudgetLaws.{charged-none, met-then, over-then}
-use Rattle.operands.specs.Operands.{inputsOf, outputOf}
-use Rattle.operands.specs.Instructions.{Readable, valuesOf}
 use Rattle.sheet.specs.declared.script.Script.{Script}
-use Rattle.sheet.specs.Decode.{partsOf}
 use Rattle.instructions.specs.declared.placed.Placed.{Placed}
 use Rattle.instructions.specs.Placed.{Stands, placedAt}
-use Rattle.bitset.specs.Below.{AllBelow}
 use Rattle.instructions.specs.Sets.{insertedAll}
 use Rattle.instructions.specs.Sound.{codeOffset}
-use Rattle.script.specs.Script.{listOf, flowCode}
-use Rattle.leaders.proofs.LeaderLaws.{readable-at}
 use Rattle.blocks.specs.Rows.{usedIn, Transfer, transferOne, transferAll, costOf, rowsAt, Transferred}
 use Rattle.blocks.specs.Blocks.{Ready}
-use Rattle.blocks.proofs.OperandLaws.{inputs-few}
-use Rattle.blocks.proofs.ReadLaws.{stands-at, flow-inputs, flow-outputs, inputs-at, output-at}
+use Rattle.blocks.proofs.ReadLaws.{Read, stands-at, read-at}
 
 -- ---- lists
 
@@ -72,10 +65,10 @@ pub record Transferring (code : List Instruction) (l : Limits) (budget left : Fl
   pub others : (k : ℕ) → (k ≡ costCell → ⊥) → (k ≡ usesRow b → ⊥) → (k ≡ definesRow b → ⊥) → cell m′ k ≡ cell m k
 
 -- before the first of them
-pub transferring-none : (code : List Instruction) (l : Limits) (budget : FlowBudget) (b start : ℕ) (m : Mem)
+pub transferring-none : {code : List Instruction} {l : Limits} {budget : FlowBudget} {b start : ℕ} {m : Mem}
     → Transferring code l budget budget b start start m m
 unfolding transferAll
-transferring-none code l budget b start m =
+transferring-none {l = l} {budget = budget} {start = start} =
     let e : start - start ≡ 0 = omega arith in
     record {
       charges = rw e (charged-none l budget);
@@ -85,11 +78,11 @@ transferring-none code l budget b start m =
       others = λ k f g h. refl;
     }
 
-module _ (code : List Instruction) (l : Limits) (budget : FlowBudget) (b start : ℕ) (m : Mem) where
+module _ {code : List Instruction} {l : Limits} {budget : FlowBudget} {b start : ℕ} {m : Mem} where
   -- all charges are met
-  pub transferred-all : (left : FlowBudget) (pc end : ℕ) (m′ : Mem) → pc ≡ end → Transferring code l budget left b start pc m m′
+  pub transferred-all : {left : FlowBudget} {pc end : ℕ} {m′ : Mem} → pc ≡ end → Transferring code l budget left b start pc m m′
       → Transferred code l budget b start end m m′ (Ok left)
-  transferred-all left pc end m′ q g = record {
+  transferred-all q g = record {
     charges = sym (g .charges) ∙ ap (λ (n : ℕ). charged l budget (map (costOf code) (range start (n - start)))) q;
     rows = λ x e. g .rows ∙ ap (λ (n : ℕ). transferAll code (range start (n - start)) (rowsAt m b)) q;
     costs = λ x e i a c. g .costs i a (omega arith);
@@ -97,15 +90,15 @@ module _ (code : List Instruction) (l : Limits) (budget : FlowBudget) (b start :
     others = g .others;
   }
 
-  module _ (left : FlowBudget) (pc n : ℕ) (m′ m₁ : Mem) (a : start ≤ pc) (g : Transferring code l budget left b start pc m m′)
-      (e : n ≡ length (instructionAt code pc .inputs)) (e₁ : m₁ ≡ store m′ costCell pc (n + 1)) (r : Charged)
+  module _ {left : FlowBudget} {pc n : ℕ} {m′ m₁ : Mem} (a : start ≤ pc) (g : Transferring code l budget left b start pc m m′)
+      (e : n ≡ length (instructionAt code pc .inputs)) (e₁ : m₁ ≡ store m′ costCell pc (n + 1)) {r : Charged}
       (c : r ≡ charged l left ((n + 1) ∷ [])) where
     cost-is : n + 1 ≡ costOf code pc
     cost-is = ap (λ (k : ℕ). k + 1) e
 
     -- a charge crosses the limit
-    pub transferred-over : (end : ℕ) (x : FlowBudget) → pc < end → r ≡ Over x → Transferred code l budget b start end m m₁ r
-    transferred-over end x h f = record {
+    pub transferred-over : {end : ℕ} {x : FlowBudget} → pc < end → r ≡ Over x → Transferred code l budget b start end m m₁ r
+    transferred-over {end} h f = record {
       charges = f ∙ sym (ap (λ (ns : List ℕ). charged l budget (map (costOf code) ns)) (range-at start pc end a h)
           ∙ ap (charged l budget) (map-append (costOf code) (range start (pc - start)) (pc ∷ range (suc pc) (end - suc pc)))
           ∙ met-then l budget _ _ (g .charges)
@@ -118,7 +111,7 @@ module _ (code : List Instruction) (l : Limits) (budget : FlowBudget) (b start :
     }
 
     -- one instruction more
-    module _ (y : Layout) (z : Sized (scratchWidths y) m′) (left′ : FlowBudget) (f : r ≡ Ok left′) (m₂ m₃ : Mem) (ins outs : List ℕ)
+    module _ (y : Layout) (z : Sized (scratchWidths y) m′) {left′ : FlowBudget} (f : r ≡ Ok left′) {m₂ m₃ : Mem} {ins outs : List ℕ}
         (p : instructionAt code pc .inputs ≡ ins) (q : instructionAt code pc .outputs ≡ outs) (h : pc < y .instructions) (hb : b < y .blocks)
         (e₂ : m₂ ≡ storeCell m₁ (usesRow b) (usedIn (cell m₁ (definesRow b)) ins (cell m₁ (usesRow b))))
         (e₃ : m₃ ≡ storeCell m₂ (definesRow b) (insertedAll outs (cell m₂ (definesRow b)))) where
@@ -180,37 +173,20 @@ module _ (code : List Instruction) (l : Limits) (budget : FlowBudget) (b start :
 
 -- ---- what is read at pc
 
-pub record Read (s : List ℕ) (x : Script) (y : Layout) (i : ℕ) (p : Placed) : Type 0 where
-  pub readable : Readable s (p .instruction)
-  pub few : length (inputsOf (p .instruction .pattern .kind) (valuesOf s (p .instruction))) ≤ p .instruction .fields + 4
-  pub inputs-are : instructionAt (flowCode (partsOf s)) i .inputs ≡ inputsOf (p .instruction .pattern .kind) (valuesOf s (p .instruction))
-  pub outputs-are : instructionAt (flowCode (partsOf s)) i .outputs ≡ listOf (outputOf (p .instruction .pattern .kind) (valuesOf s (p .instruction)))
-  pub inputs-below : AllBelow (64 * y .words) (inputsOf (p .instruction .pattern .kind) (valuesOf s (p .instruction)))
-  pub output-below : AllBelow (64 * y .words) (listOf (outputOf (p .instruction .pattern .kind) (valuesOf s (p .instruction))))
-
-module _ (s : List ℕ) (x : Script) (y : Layout) (m m′ : Mem) (ok : Ready s x y m) (same : cell m′ offsetCell ≡ cell m offsetCell) (i at : ℕ)
-    (h : i < y .instructions) (e : at ≡ word m′ offsetCell i) where
+module _ {s : List ℕ} {x : Script} {y : Layout} {m : Mem} (ok : Ready s x y m) (m′ : Mem) (same : cell m′ offsetCell ≡ cell m offsetCell)
+    (i : ℕ) (h : i < y .instructions) {at : ℕ} (e : at ≡ word m′ offsetCell i) where
   there : i < x .count
   there = omega (arith, ok .fits .instructions)
 
   -- the offset that is noted is the instruction's
-  offset-is : at ≡ codeOffset s x i
+  pub offset-is : at ≡ codeOffset s x i
   offset-is = e ∙ same-word i same ∙ ok .index .offsets i there
 
   pub noted-stands : Stands s at
-  noted-stands = stands-at s x (ok .sound) i at offset-is there
+  noted-stands = stands-at (ok .sound) offset-is there
 
-  pub noted-read : (p : Placed) → p ≡ placedAt s at → Read s x y i p
-  noted-read p f =
-      let r = readable-at s x (ok .sound) i at p f offset-is there in
-      record {
-        readable = r;
-        few = inputs-few s (p .instruction) r;
-        inputs-are = flow-inputs s x (ok .sound) i at offset-is there p f;
-        outputs-are = flow-outputs s x (ok .sound) i at offset-is there p f;
-        inputs-below = inputs-at s x (ok .sound) i at offset-is there p f (y .words) (ok .fits .slots);
-        output-below = output-at s x (ok .sound) i at offset-is there p f (y .words) (ok .fits .slots);
-      }
+  pub noted-read : {p : Placed} → p ≡ placedAt s at → Read s (y .words) i p
+  noted-read f = read-at (ok .sound) offset-is there (ok .fits .slots) f
 
 -- the offsets stay while the instructions of a block are gone through
 pub offsets-stay : {code : List Instruction} {l : Limits} {budget left : FlowBudget} {b start pc : ℕ} {m m′ : Mem}

@@ -32,6 +32,7 @@ use Rattle.fixed_points.proofs.Gathered.{incoming-bits, live-out-bits}
 use Rattle.answer.specs.Words.{Means}
 use Rattle.points.specs.declared.reads.Reads.{Reads}
 use Rattle.points.specs.Rows.{Coded, ReadsChecked}
+use Rattle.points.proofs.ReadLaws as read
 use Rattle.check_points.specs.CheckPoints.{codeOf, Solved}
 
 -- ---- what stays
@@ -59,14 +60,8 @@ module _ {y : Layout} {m m′ : Mem} (h : RunningOnly y m m′) where
 
   -- the instructions can be read as before
   pub coded-kept : {s : List ℕ} {x : Script} → Coded s x y m → Coded s x y m′
-  coded-kept c = record {
-    sound = c .sound;
-    instructions = c .instructions;
-    slots = c .slots;
-    offsets = λ i lt. word-kept offsetCell i (omega arith) ∙ c .offsets i lt;
-    costs = λ i lt. word-kept costCell i (omega arith) ∙ c .costs i lt;
-    hosts = λ some i lt. ap (λ (ws : List ℕ). member ws i) (h .others (hostsRow (y .blocks)) (λ e. omega arith) (λ e. omega arith)) ∙ c .hosts some i lt;
-  }
+  coded-kept c = read.coded-kept c (h .others offsetCell (λ e. omega arith) (λ e. omega arith)) (h .others costCell (λ e. omega arith) (λ e. omega arith))
+      (h .others (hostsRow (y .blocks)) (λ e. omega arith) (λ e. omega arith))
 
   -- and so is all that the words hold
   pub solved-kept : {s : List ℕ} {x : Script} {t : Mem} → Solved s x y m t → Solved s x y m′ t

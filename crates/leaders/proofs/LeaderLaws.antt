@@ -45,8 +45,8 @@ pub record Marking (s : List ℕ) (x : Script) (m m′ : Mem) (i : ℕ) : Type 0
   pub marks : (j : ℕ) → j < x .count → word m′ blockOfCell j ≡ flag (ledBy (flowCode (partsOf s)) i j)
   pub others : (k : ℕ) → (k ≡ offsetCell → ⊥) → (k ≡ blockOfCell → ⊥) → cell m′ k ≡ cell m k
 
-pub marking-none : (s : List ℕ) (x : Script) (m : Mem) → Begun x m → Marking s x m m 0
-marking-none s x m b = record {
+pub marking-none : {s : List ℕ} {x : Script} {m : Mem} → Begun x m → Marking s x m m 0
+marking-none b = record {
   offsets = λ k h. absurd (omega arith);
   marks = λ j h. b j h ∙ ap flag (sym (or-false (eqb j 0)));
   others = λ k f g. refl;
@@ -54,7 +54,7 @@ marking-none s x m b = record {
 
 module _ (s : List ℕ) (x : Script) (h : Sound s x) where
   -- one instruction more
-  pub marking-more : (m m′ m₁ m₂ : Mem) (i at : ℕ) → Marking s x m m′ i → Sized (scratchWidths (marking x)) m′ → i < x .count → at ≡ codeOffset s x i
+  marking-more : (m m′ m₁ m₂ : Mem) (i at : ℕ) → Marking s x m m′ i → Sized (scratchWidths (marking x)) m′ → i < x .count → at ≡ codeOffset s x i
       → m₁ ≡ store m′ offsetCell i at
       → m₂ ≡ markedBy (endsBlock (codeInstruction s x i .pattern .kind)) (targetsOf (codeInstruction s x i .pattern .kind) (valuesOf s (codeInstruction s x i))) (x .count) i m₁
       → Marking s x m m₂ (i + 1)
@@ -138,7 +138,7 @@ module _ (s : List ℕ) (x : Script) (h : Sound s x) where
               let k = mem-place code (z .0) outside (z .1) in
               third (k .0) (omega (arith, k .1, code-length s x h)) (ap (names (suc i)) (k .2) ∙ z .2) (at (k .0) .ends) refl
 
-  pub marking-all : (m m′ : Mem) (i : ℕ) → Marking s x m m′ i → i ≡ x .count → Led s x m′
+  marking-all : (m m′ : Mem) (i : ℕ) → Marking s x m m′ i → i ≡ x .count → Led s x m′
   marking-all m m′ i g e = record {
     offsets = λ k b. g .offsets k (omega arith);
     marks = λ j b. g .marks j b ∙ ap flag (ap (λ (n : ℕ). ledBy (flowCode (partsOf s)) n j) e ∙ led-leader j b);
@@ -146,10 +146,10 @@ module _ (s : List ℕ) (x : Script) (h : Sound s x) where
 
 -- ---- what the loop makes of it
 
-module _ (s : List ℕ) (x : Script) (h : Sound s x) where
+module _ {s : List ℕ} {x : Script} (h : Sound s x) where
   -- the instruction that is read at the i-th offset
-  module _ (i at : ℕ) (p : Placed) (e : p ≡ placedAt s at) (q : at ≡ codeOffset s x i) where
-    placed-is : p ≡ placedAt s (codeOffset s x i)
+  module _ (i : ℕ) {at : ℕ} {p : Placed} (e : p ≡ placedAt s at) (q : at ≡ codeOffset s x i) where
+    pub placed-is : p ≡ placedAt s (codeOffset s x i)
     placed-is = e ∙ ap (placedAt s) q
 
     pub next-at : p .next ≡ codeOffset s x (i + 1)
@@ -163,26 +163,26 @@ module _ (s : List ℕ) (x : Script) (h : Sound s x) where
         subst (λ (w : Placed). AllBelow (x .count) (targetsOf (w .instruction .pattern .kind) (valuesOf s (w .instruction)))) (sym placed-is)
         (h .targets-below i l)
 
-    pub marking-placed : (m m′ m₁ m₂ : Mem) → Marking s x m m′ i → Sized (scratchWidths (marking x)) m′ → i < x .count → m₁ ≡ store m′ offsetCell i at
+    pub marking-placed : {m m′ m₁ m₂ : Mem} → Marking s x m m′ i → Sized (scratchWidths (marking x)) m′ → i < x .count → m₁ ≡ store m′ offsetCell i at
         → m₂ ≡ markedBy (endsBlock (p .instruction .pattern .kind)) (targetsOf (p .instruction .pattern .kind) (valuesOf s (p .instruction))) (x .count) i m₁
         → Marking s x m m₂ (i + 1)
-    marking-placed m m′ m₁ m₂ g z l e₁ e₂ =
+    marking-placed {m} {m′} {m₁} {m₂} g z l e₁ e₂ =
         marking-more s x h m m′ m₁ m₂ i at g z l q e₁
         (e₂ ∙ ap (λ (w : Placed). markedBy (endsBlock (w .instruction .pattern .kind)) (targetsOf (w .instruction .pattern .kind) (valuesOf s (w .instruction))) (x .count) i m₁) placed-is)
 
   -- a charge crosses the limit at instruction i
-  pub leads-over : (l : Limits) (b left y : FlowBudget) (m m′ : Mem) (r : Charged) (i : ℕ) → Marking s x m m′ i → i < x .count
+  pub leads-over : {l : Limits} {b left y : FlowBudget} {m m′ : Mem} {r : Charged} {i : ℕ} → Marking s x m m′ i → i < x .count
       → charged l b (replicate i 1) ≡ Ok left → r ≡ charged l left (1 ∷ []) → r ≡ Over y → Leads s x l b m m′ r
-  leads-over l b left y m m′ r i g h c e f = record {
+  leads-over {l} {b} {i = i} g h c e f = record {
     charges = f ∙ sym (ones-crossed l b i (x .count) c h (sym e ∙ f));
     led = λ z q. let o : _≡_ {A = ℕ} 0 1 = cc in absurd (omega arith);
     others = g .others;
   }
 
   -- all instructions are charged and marked
-  pub leads-all : (l : Limits) (b left : FlowBudget) (m m′ : Mem) (i : ℕ) → Marking s x m m′ i → i ≡ x .count
+  pub leads-all : {l : Limits} {b left : FlowBudget} {m m′ : Mem} {i : ℕ} → Marking s x m m′ i → i ≡ x .count
       → charged l b (replicate i 1) ≡ Ok left → Leads s x l b m m′ (Ok left)
-  leads-all l b left m m′ i g e c = record {
+  leads-all {l} {b} {m = m} {m′ = m′} {i = i} g e c = record {
     charges = sym c ∙ ap (λ (n : ℕ). charged l b (replicate n 1)) e;
     led = λ z q. marking-all s x h m m′ i g e;
     others = g .others;
@@ -190,7 +190,7 @@ module _ (s : List ℕ) (x : Script) (h : Sound s x) where
 
 -- ---- before the loop
 
-module _ (x : Script) (m m₁ m₂ : Mem) (z : Sized (scratchWidths (marking x)) m)
+module _ (x : Script) {m m₁ m₂ : Mem} (z : Sized (scratchWidths (marking x)) m)
     (e₁ : m₁ ≡ storeCell m blockOfCell (replicate (getD (scratchWidths (marking x)) 1 0) 0)) (e₂ : m₂ ≡ store m₁ blockOfCell 0 1) where
   width-is : getD (scratchWidths (marking x)) 1 0 ≡ x .count
   width-is = width-instructions (marking x) 1 (omega arith)
@@ -210,8 +210,8 @@ module _ (x : Script) (m m₁ m₂ : Mem) (z : Sized (scratchWidths (marking x))
       go (yes p) = ap (λ (w : Mem). word w blockOfCell j) e₂ ∙ rw (eq-eqb j 0 p) (rw p (word-put (marking x) sized₁ (place-instructions (marking x) 1 0 (omega arith) (omega arith)) 1))
       go (no p) = ap (λ (w : Mem). word w blockOfCell j) e₂ ∙ rw (ne-eqb j 0 p) (word-store-other m₁ blockOfCell 0 1 blockOfCell j (λ _. p) ∙ zero-at)
 
-  pub leads-from : (s : List ℕ) (l : Limits) (b : FlowBudget) (m′ : Mem) (r : Charged) → Leads s x l b m₂ m′ r → Leads s x l b m m′ r
-  leads-from s l b m′ r g = record {
+  pub leads-from : {s : List ℕ} {l : Limits} {b : FlowBudget} {m′ : Mem} {r : Charged} → Leads s x l b m₂ m′ r → Leads s x l b m m′ r
+  leads-from g = record {
     charges = g .charges;
     led = g .led;
     others = λ k f f′. g .others k f f′ ∙ ap (λ (w : Mem). cell w k) e₂ ∙ cell-store-other m₁ blockOfCell _ k f′

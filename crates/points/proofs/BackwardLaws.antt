@@ -13,7 +13,7 @@ use Rattle.budget.specs.declared.FlowBudget.{FlowBudget}
 use Rattle.budget.specs.declared.Limits.{Limits}
 use Rattle.format.specs.declared.refusal.Refusal.{Refusal}
 use Rattle.memory.specs.Cells.{Mem, cell, storeCell}
-use Rattle.memory.specs.Names.{liveStateRow}
+use Rattle.memory.specs.Names.{offsetCell, costCell, liveStateRow, hostsRow}
 use Rattle.memory.specs.declared.layout.Layout.{Layout}
 use Rattle.memory.proofs.CellLaws.{cell-store-same, cell-store-other}
 use Rattle.sheet.specs.declared.script.Script.{Script}
@@ -23,7 +23,8 @@ use Rattle.points.specs.declared.awaits.Points.{Points}
 use Rattle.points.specs.declared.awaits.Points.the-variants.{Passed, Refused}
 use Rattle.answer.specs.Words.{Means}
 use Rattle.verdict.specs.Points.{Checking, on, andThen, Point, pointRun, awaitsRun, awaitPoints}
-use Rattle.points.specs.Rows.{awaitsAmong, pointsOf, Entry, Entries, InstructionChecked, AwaitsChecked}
+use Rattle.points.specs.Rows.{Coded, awaitsAmong, pointsOf, Entry, Entries, InstructionChecked, AwaitsChecked}
+use Rattle.points.proofs.ReadLaws.{coded-kept}
 use Rattle.points.proofs.ChargeLaws.{stop-stays}
 
 -- ---- awaits counted from the back
@@ -150,7 +151,13 @@ pub record Awaiting (s : List ℕ) (x : Script) (y : Layout) (l : Limits) (budge
   pub others : (k : ℕ) → (k ≡ liveStateRow (y .blocks) → ⊥) → cell m′ k ≡ cell m k
   pub other-sets : (k : ℕ) → k < 2 * y .blocks + next → cell t′ k ≡ cell t k
 
-module _ (s : List ℕ) (x : Script) (y : Layout) (l : Limits) (budget : FlowBudget) (end place : ℕ) (m t : Mem) where
+-- the instructions can be read as before
+pub awaiting-coded : {s : List ℕ} {x : Script} {y : Layout} {l : Limits} {budget left : FlowBudget} {end pc place next : ℕ} {m m′ t t′ : Mem}
+    → Coded s x y m → Awaiting s x y l budget left end pc place next m m′ t t′ → Coded s x y m′
+awaiting-coded {y = y} ok a =
+    coded-kept ok (a .others offsetCell (λ q. omega arith)) (a .others costCell (λ q. omega arith)) (a .others (hostsRow (y .blocks)) (λ q. omega arith))
+
+module _ {s : List ℕ} {x : Script} {y : Layout} {l : Limits} {budget : FlowBudget} {end place : ℕ} {m t : Mem} where
   -- before the last of them
   pub awaiting-none : Awaiting s x y l budget budget end end place place m m t t
   unfolding awaitsRun awaitPoints
@@ -165,10 +172,10 @@ module _ (s : List ℕ) (x : Script) (y : Layout) (l : Limits) (budget : FlowBud
         other-sets = λ k h. refl;
       }
 
-  module _ (left : FlowBudget) (pc next : ℕ) (m₁ t₁ : Mem) (a : Awaiting s x y l budget left end pc place next m m₁ t t₁) where
+  module _ {left : FlowBudget} {pc next : ℕ} {m₁ t₁ : Mem} (a : Awaiting s x y l budget left end pc place next m m₁ t t₁) where
     -- all of them
-    pub awaits-passed : (start : ℕ) → pc ≡ start → AwaitsChecked s x y l budget start end place m m₁ t t₁ (Passed next left)
-    awaits-passed start q =
+    pub awaits-passed : {start : ℕ} → pc ≡ start → AwaitsChecked s x y l budget start end place m m₁ t t₁ (Passed next left)
+    awaits-passed {start} q =
         let b = subst (λ (k : ℕ). Awaiting s x y l budget left end k place next m m₁ t t₁) q a in
         record {
           answer = λ g h. sym (b .run g h);
@@ -178,7 +185,7 @@ module _ (s : List ℕ) (x : Script) (y : Layout) (l : Limits) (budget : FlowBud
           other-sets = λ n z e k h. let w : next ≡ n = cc in b .other-sets k (omega arith);
         }
 
-    module _ (pc₁ : ℕ) (q : pc ≡ suc pc₁) (high : pc ≤ end) (m₂ t₂ : Mem) (r : Points)
+    module _ {pc₁ : ℕ} (q : pc ≡ suc pc₁) (high : pc ≤ end) {m₂ t₂ : Mem} {r : Points}
         (c : InstructionChecked s x y l left pc₁ next m₁ m₂ t₁ t₂ r) where
       behind : Awaiting s x y l budget left end (suc pc₁) place next m m₁ t t₁
       behind = subst (λ (k : ℕ). Awaiting s x y l budget left end k place next m m₁ t t₁) q a
@@ -191,9 +198,9 @@ module _ (s : List ℕ) (x : Script) (y : Layout) (l : Limits) (budget : FlowBud
           ∙ sym (c .answer (liveFrom s end g (suc pc₁)) (behind .row g h))
 
       -- the instruction is refused
-      pub awaits-stopped : (start : ℕ) → start ≤ pc₁ → (u : Refusal) (z : FlowBudget) → r ≡ Refused u z
+      pub awaits-stopped : {start : ℕ} → start ≤ pc₁ → {u : Refusal} {z : FlowBudget} → r ≡ Refused u z
           → AwaitsChecked s x y l budget start end place m m₂ t t₂ r
-      awaits-stopped start low u z e = record {
+      awaits-stopped {start} low e = record {
         answer = λ g h. ap pointsOf e ∙ sym (stop-stays (runFrom s x y l end g budget) (pointFrom s x y l end g) end
             (λ k lt. run-first s x y l end g k lt budget) start pc₁ low (omega arith) (run-more g h ∙ ap pointsOf e));
         places = λ n v w. let o : _≡_ {A = ℕ} 0 1 = cc in absurd (omega arith);
@@ -203,9 +210,9 @@ module _ (s : List ℕ) (x : Script) (y : Layout) (l : Limits) (budget : FlowBud
       }
 
       -- one instruction more
-      pub awaiting-more : (n : ℕ) (paid : FlowBudget) → r ≡ Passed n paid → 2 * y .blocks + next ≤ length t₁
+      pub awaiting-more : {n : ℕ} {paid : FlowBudget} → r ≡ Passed n paid → 2 * y .blocks + next ≤ length t₁
           → Awaiting s x y l budget paid end pc₁ place n m m₂ t t₂
-      awaiting-more n paid e room = record {
+      awaiting-more {n} {paid} e room = record {
         run = λ g h. run-more g h ∙ ap pointsOf e;
         row = λ g h i o. c .row n paid e (liveFrom s end g (suc pc₁)) (behind .row g h) i o ∙ sym (live-first s end g pc₁ (omega arith) i);
         places = omega (arith, c .places n paid e, behind .places, awaits-first (flowCode (partsOf s)) pc₁ end (omega arith));

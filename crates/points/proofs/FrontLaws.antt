@@ -42,24 +42,24 @@ pub record Charging (code : List Instruction) (l : Limits) (budget left : FlowBu
   pub counted : awaits ≡ awaitsAmong code start pc
   pub few : awaits + start ≤ pc
 
-module _ (code : List Instruction) (l : Limits) (budget : FlowBudget) (start end : ℕ) where
+module _ {code : List Instruction} {l : Limits} {budget : FlowBudget} {start end : ℕ} where
   -- before the first of them
   pub charging-none : Charging code l budget budget start end start 0
   charging-none =
       let e : start - start ≡ 0 = omega arith in
       record { run = refl; counted = rw e refl; few = omega arith }
 
-  module _ (left : FlowBudget) (pc awaits : ℕ) (a : Charging code l budget left start end pc awaits) where
+  module _ {left : FlowBudget} {pc awaits : ℕ} (a : Charging code l budget left start end pc awaits) where
     -- all are charged
-    pub charges-made : pc ≡ end → (z : FlowBudget) → z ≡ left → ReadsCharged code l budget start end (Filled awaits z)
+    pub charges-made : pc ≡ end → {z : FlowBudget} → z ≡ left → ReadsCharged code l budget start end (Filled awaits z)
     unfolding frontRun
-    charges-made q z o = record {
+    charges-made q o = record {
       answer = let e : end - pc ≡ 0 = omega arith in
           sym (a .run ∙ ap (λ (n : ℕ). frontRun (costAt code) l (range pc n) left) e ∙ ap on (sym o));
       counted = λ n x e. let w : n ≡ awaits = cc in w ∙ a .counted ∙ ap (awaitsAmong code start) q;
     }
 
-    module _ (h : pc < end) (cost : ℕ) (c : cost ≡ costAt code pc) (r : Charged) (d : r ≡ charged l left (cost ∷ [])) where
+    module _ (h : pc < end) {cost : ℕ} (c : cost ≡ costAt code pc) {r : Charged} (d : r ≡ charged l left (cost ∷ [])) where
       step : frontRun (costAt code) l (range pc (end - pc)) left ≡ ifPaid r (frontRun (costAt code) l (range (suc pc) (end - suc pc)))
       unfolding frontRun
       step =
@@ -69,8 +69,8 @@ module _ (code : List Instruction) (l : Limits) (budget : FlowBudget) (start end
           (ap (λ (n : ℕ). charged l left (n ∷ [])) (sym c) ∙ sym d)
 
       -- a charge crosses the limit
-      pub charges-over : (x : FlowBudget) (q : Reads) → r ≡ charge.Over x → q ≡ Over (budgetOf r) → ReadsCharged code l budget start end q
-      charges-over x q e o =
+      pub charges-over : {x : FlowBudget} {q : Reads} → r ≡ charge.Over x → q ≡ Over (budgetOf r) → ReadsCharged code l budget start end q
+      charges-over {x} {q} e o =
           let over : q ≡ Over x = o ∙ ap (λ (z : Charged). Over (budgetOf z)) e in
           record {
             answer = ap readsOf over
@@ -79,9 +79,9 @@ module _ (code : List Instruction) (l : Limits) (budget : FlowBudget) (start end
           }
 
       -- one instruction more
-      pub charging-more : (b : FlowBudget) → r ≡ charge.Ok b → (kind k : ℕ) → awaitAt code pc ≡ isAwait kind → k ≡ awaitCount kind → start ≤ pc
+      pub charging-more : {b : FlowBudget} → r ≡ charge.Ok b → (kind : ℕ) {k : ℕ} → awaitAt code pc ≡ isAwait kind → k ≡ awaitCount kind → start ≤ pc
           → Charging code l budget b start end (pc + 1) (awaits + k)
-      charging-more b e kind k aw ek sp = let next : suc pc ≡ pc + 1 = omega arith in record {
+      charging-more {b} e kind {k} aw ek sp = let next : suc pc ≡ pc + 1 = omega arith in record {
         run = a .run ∙ step ∙ ap (λ (z : Charged). ifPaid z (frontRun (costAt code) l (range (suc pc) (end - suc pc)))) e
             ∙ ap (λ (z : ℕ). frontRun (costAt code) l (range z (end - z)) b) next;
         counted = ap₂ (λ (p q : ℕ). p + q) (a .counted) ek ∙ sym (awaits-more code start pc kind sp aw);

@@ -21,22 +21,16 @@ use Rattle.format.specs.declared.refusal.Refusal.the-variants.{UnfilledSlot}
 use Rattle.memory.specs.Cells.{Mem, cell, word, storeCell}
 use Rattle.memory.specs.Names.{costCell, offsetCell, stateRow, hostsRow}
 use Rattle.memory.specs.declared.layout.Layout.{Layout}
-use Rattle.memory.proofs.CellLaws.{cell-store-same, cell-store-other}
+use Rattle.memory.proofs.CellLaws.{same-word, cell-store-same, cell-store-other}
 use Rattle.operands.specs.Kinds.{isAwait}
-use Rattle.operands.specs.Operands.{inputsOf, outputOf}
-use Rattle.operands.specs.Instructions.{Readable, valuesOf}
 use Rattle.sheet.specs.declared.script.Script.{Script}
 use Rattle.sheet.specs.Decode.{partsOf}
 use Rattle.instructions.specs.declared.placed.Placed.{Placed}
 use Rattle.instructions.specs.Placed.{Stands, placedAt}
-use Rattle.bitset.specs.Below.{AllBelow}
-use Rattle.instructions.specs.Sets.{insertedAll}
-use Rattle.instructions.specs.Sound.{codeOffset}
+use Rattle.instructions.specs.Sets.{AllBelow, insertedAll}
 use Rattle.instructions.proofs.Below.{below-getD}
-use Rattle.script.specs.Script.{listOf, flowCode, hostIn}
-use Rattle.script.proofs.ScriptLaws.{code-at}
-use Rattle.leaders.proofs.LeaderLaws.{readable-at}
-use Rattle.blocks.proofs.ReadLaws.{stands-at, flow-inputs, flow-outputs, inputs-at, output-at}
+use Rattle.script.specs.Script.{flowCode}
+use Rattle.blocks.proofs.ReadLaws.{Read, stands-at, read-at}
 use Rattle.blocks.proofs.TransferLaws.{range-more}
 use Rattle.points.specs.declared.reads.Reads.{Reads}
 use Rattle.points.specs.declared.reads.Reads.the-variants.{Filled, Unfilled, Over}
@@ -70,54 +64,32 @@ counted-once k n e = go (isAwait k) e
 
 -- ---- what is read at pc
 
-pub record Noted (s : List ℕ) (y : Layout) (i : ℕ) (p : Placed) : Type 0 where
-  pub readable : Readable s (p .instruction)
-  pub inputs-are : instructionAt (flowCode (partsOf s)) i .inputs ≡ inputsOf (p .instruction .pattern .kind) (valuesOf s (p .instruction))
-  pub outputs-are : instructionAt (flowCode (partsOf s)) i .outputs ≡ listOf (outputOf (p .instruction .pattern .kind) (valuesOf s (p .instruction)))
-  pub emptied-none : instructionAt (flowCode (partsOf s)) i .emptied ≡ []
-  pub await-is : awaitAt (flowCode (partsOf s)) i ≡ isAwait (p .instruction .pattern .kind)
-  pub inputs-below : AllBelow (64 * y .words) (inputsOf (p .instruction .pattern .kind) (valuesOf s (p .instruction)))
-  pub output-below : AllBelow (64 * y .words) (listOf (outputOf (p .instruction .pattern .kind) (valuesOf s (p .instruction))))
-
--- the words still hold it where only a row before that of the host slots changed
-pub coded-kept : (s : List ℕ) (x : Script) (y : Layout) (m m′ : Mem) (row : ℕ) → 18 ≤ row → row < hostsRow (y .blocks) → Coded s x y m
-    → ((k : ℕ) → (k ≡ row → ⊥) → cell m′ k ≡ cell m k) → Coded s x y m′
-coded-kept s x y m m′ row low high ok others = record {
+-- the words still hold it where its three cells stay
+pub coded-kept : {s : List ℕ} {x : Script} {y : Layout} {m m′ : Mem} → Coded s x y m → cell m′ offsetCell ≡ cell m offsetCell
+    → cell m′ costCell ≡ cell m costCell → cell m′ (hostsRow (y .blocks)) ≡ cell m (hostsRow (y .blocks)) → Coded s x y m′
+coded-kept ok e f g = record {
   sound = ok .sound;
   instructions = ok .instructions;
   slots = ok .slots;
-  offsets = λ i l. ap (λ (ws : List ℕ). getD ws i 0) (others offsetCell (λ q. omega arith)) ∙ ok .offsets i l;
-  costs = λ i l. ap (λ (ws : List ℕ). getD ws i 0) (others costCell (λ q. omega arith)) ∙ ok .costs i l;
-  hosts = λ h. subst (λ (ws : List ℕ). Means (y .words) ws (hostIn (partsOf s))) (sym (others (hostsRow (y .blocks)) (λ q. omega arith))) (ok .hosts h);
+  offsets = λ i l. same-word i e ∙ ok .offsets i l;
+  costs = λ i l. same-word i f ∙ ok .costs i l;
+  hosts = λ h i l. ap (λ (ws : List ℕ). member ws i) g ∙ ok .hosts h i l;
 }
 
-module _ (s : List ℕ) (x : Script) (y : Layout) (m : Mem) (ok : Coded s x y m) (i : ℕ) (h : i < y .instructions) where
+module _ {s : List ℕ} {x : Script} {y : Layout} {m : Mem} (ok : Coded s x y m) (i : ℕ) (h : i < y .instructions) where
   there : i < x .count
   there = omega (arith, ok .instructions)
 
   -- the cost that is noted is the instruction's
-  pub noted-cost : (cost : ℕ) → cost ≡ word m costCell i → cost ≡ costAt (flowCode (partsOf s)) i
-  noted-cost cost e = e ∙ ok .costs i there
+  pub noted-cost : {cost : ℕ} → cost ≡ word m costCell i → cost ≡ costAt (flowCode (partsOf s)) i
+  noted-cost e = e ∙ ok .costs i there
 
   -- and so is the offset
-  module _ (at : ℕ) (e : at ≡ word m offsetCell i) where
-    offset-is : at ≡ codeOffset s x i
-    offset-is = e ∙ ok .offsets i there
+  pub noted-stands : {at : ℕ} → at ≡ word m offsetCell i → Stands s at
+  noted-stands e = stands-at (ok .sound) (e ∙ ok .offsets i there) there
 
-    pub noted-stands : Stands s at
-    noted-stands = stands-at s x (ok .sound) i at offset-is there
-
-    pub noted-read : (p : Placed) → p ≡ placedAt s at → Noted s y i p
-    noted-read p f = record {
-      readable = readable-at s x (ok .sound) i at p f offset-is there;
-      inputs-are = flow-inputs s x (ok .sound) i at offset-is there p f;
-      outputs-are = flow-outputs s x (ok .sound) i at offset-is there p f;
-      emptied-none = ap (λ (v : Instruction). v .emptied) (code-at s x (ok .sound) i there);
-      await-is = ap (λ (v : Instruction). v .isAwait) (code-at s x (ok .sound) i there)
-          ∙ ap (λ (w : Placed). isAwait (w .instruction .pattern .kind)) (sym (f ∙ ap (placedAt s) offset-is));
-      inputs-below = inputs-at s x (ok .sound) i at offset-is there p f (y .words) (ok .slots);
-      output-below = output-at s x (ok .sound) i at offset-is there p f (y .words) (ok .slots);
-    }
+  pub noted-read : {at : ℕ} → at ≡ word m offsetCell i → {p : Placed} → p ≡ placedAt s at → Read s (y .words) i p
+  noted-read e f = read-at (ok .sound) (e ∙ ok .offsets i there) there (ok .slots) f
 
 -- ---- a row of w words that stands for a set
 
@@ -146,18 +118,24 @@ pub record Reading (code : List Instruction) (parameter : ℕ → Bool) (y : Lay
   pub few : awaits + start ≤ pc
   pub others : (k : ℕ) → (k ≡ stateRow (y .blocks) → ⊥) → cell m′ k ≡ cell m k
 
-module _ (code : List Instruction) (parameter : ℕ → Bool) (y : Layout) (l : Limits) (budget : FlowBudget) (start end : ℕ) (m : Mem) where
+-- the instructions can be read as before
+pub reading-coded : {s : List ℕ} {x : Script} {code : List Instruction} {parameter : ℕ → Bool} {y : Layout} {l : Limits} {budget left : FlowBudget}
+    {start end pc awaits : ℕ} {m m′ : Mem} → Coded s x y m → Reading code parameter y l budget left start end pc awaits m m′ → Coded s x y m′
+reading-coded {y = y} ok a =
+    coded-kept ok (a .others offsetCell (λ q. omega arith)) (a .others costCell (λ q. omega arith)) (a .others (hostsRow (y .blocks)) (λ q. omega arith))
+
+module _ {code : List Instruction} {parameter : ℕ → Bool} {y : Layout} {l : Limits} {budget : FlowBudget} {start end : ℕ} {m : Mem} where
   -- before the first of them
   pub reading-none : Reading code parameter y l budget budget start end start 0 m m
   reading-none =
       let e : start - start ≡ 0 = omega arith in
       record { run = λ f h. (f, h, refl); counted = rw e refl; few = omega arith; others = λ k h. refl }
 
-  module _ (left : FlowBudget) (pc awaits : ℕ) (m′ : Mem) (a : Reading code parameter y l budget left start end pc awaits m m′) where
+  module _ {left : FlowBudget} {pc awaits : ℕ} {m′ : Mem} (a : Reading code parameter y l budget left start end pc awaits m m′) where
     -- all reads are filled
-    pub reads-filled : pc ≡ end → (z : FlowBudget) → z ≡ left → ReadsChecked code parameter y l budget start end m m′ (Filled awaits z)
+    pub reads-filled : pc ≡ end → {z : FlowBudget} → z ≡ left → ReadsChecked code parameter y l budget start end m m′ (Filled awaits z)
     unfolding readsRun
-    reads-filled q z o = record {
+    reads-filled q o = record {
       answer = λ f h. let r = a .run f h in
           let e : end - pc ≡ 0 = omega arith in
           sym (r .2 ∙ ap (λ (n : ℕ). readsRun code parameter l (r .0) (range pc n) left) e ∙ ap on (sym o));
@@ -165,7 +143,7 @@ module _ (code : List Instruction) (parameter : ℕ → Bool) (y : Layout) (l : 
       others = a .others;
     }
 
-    module _ (h : pc < end) (cost : ℕ) (c : cost ≡ costAt code pc) (r : Charged) (d : r ≡ charged l left (cost ∷ [])) where
+    module _ (h : pc < end) {cost : ℕ} (c : cost ≡ costAt code pc) {r : Charged} (d : r ≡ charged l left (cost ∷ [])) where
       -- what follows the charge, if the set is g before pc
       abbrev after : (ℕ → Bool) → FlowBudget → Checking
       after g b = pick (every g (instructionAt code pc .inputs))
@@ -179,9 +157,9 @@ module _ (code : List Instruction) (parameter : ℕ → Bool) (y : Layout) (l : 
           ∙ ap (λ (z : Charged). ifPaid z (after g)) (ap (λ (n : ℕ). charged l left (n ∷ [])) (sym c) ∙ sym d)
 
       -- a charge crosses the limit
-      pub reads-over : (x : FlowBudget) (q : Reads) → r ≡ charge.Over x → q ≡ Over (budgetOf r)
+      pub reads-over : {x : FlowBudget} {q : Reads} → r ≡ charge.Over x → q ≡ Over (budgetOf r)
           → ReadsChecked code parameter y l budget start end m m′ q
-      reads-over x q e o =
+      reads-over {x} {q} e o =
           let over : q ≡ Over x = o ∙ ap (λ (z : Charged). Over (budgetOf z)) e in
           record {
             answer = λ f g. let u = a .run f g in
@@ -190,7 +168,7 @@ module _ (code : List Instruction) (parameter : ℕ → Bool) (y : Layout) (l : 
             others = a .others;
           }
 
-      module _ (b : FlowBudget) (e : r ≡ charge.Ok b) (ins : List ℕ) (p : instructionAt code pc .inputs ≡ ins)
+      module _ {b : FlowBudget} (e : r ≡ charge.Ok b) {ins : List ℕ} (p : instructionAt code pc .inputs ≡ ins)
           (ib : AllBelow (64 * y .words) ins) where
         -- after a charge that is met, by whether all inputs are there
         met : (g : ℕ → Bool) (t : Bool) → every g ins ≡ t → readsRun code parameter l g (range pc (end - pc)) left
@@ -203,10 +181,10 @@ module _ (code : List Instruction) (parameter : ℕ → Bool) (y : Layout) (l : 
             (stop UnfilledSlot b)) (ap (every g) p ∙ q)
 
         -- an input is missing
-        pub reads-unfilled : (row k : ℕ) → row ≡ stateRow (y .blocks) → k < length ins → (t : Bool)
-            → t ≡ not (member (cell m′ row) (getD ins k 0)) → t ≡ true → (z : FlowBudget) → z ≡ b
+        pub reads-unfilled : {row : ℕ} (k : ℕ) → row ≡ stateRow (y .blocks) → k < length ins → {t : Bool}
+            → t ≡ not (member (cell m′ row) (getD ins k 0)) → t ≡ true → {z : FlowBudget} → z ≡ b
             → ReadsChecked code parameter y l budget start end m m′ (Unfilled z)
-        reads-unfilled row k i j t q v z o = record {
+        reads-unfilled {row} k i j q v o = record {
           answer = λ f g. let u = a .run f g in
               sym (u .2 ∙ met (u .0) false (means-missing (y .words) _ (u .0) (u .1) ins k ib j
               (ap (λ (n : ℕ). member (cell m′ n) (getD ins k 0)) (sym i) ∙ not-yes (member (cell m′ row) (getD ins k 0)) (sym q ∙ v)))
@@ -216,13 +194,13 @@ module _ (code : List Instruction) (parameter : ℕ → Bool) (y : Layout) (l : 
         }
 
         -- one instruction more
-        pub reading-more : (row kind k : ℕ) (outs : List ℕ) (m₁ : Mem) → row ≡ stateRow (y .blocks) → row < length m′
+        pub reading-more : {row : ℕ} (kind : ℕ) {k : ℕ} {outs : List ℕ} {m₁ : Mem} → row ≡ stateRow (y .blocks) → row < length m′
             → length (cell m′ row) ≡ y .words
             → ((j : ℕ) → j < length ins → member (cell m′ row) (getD ins j 0) ≡ true)
             → instructionAt code pc .outputs ≡ outs → instructionAt code pc .emptied ≡ [] → AllBelow (64 * y .words) outs
             → m₁ ≡ storeCell m′ row (insertedAll outs (cell m′ row)) → awaitAt code pc ≡ isAwait kind → k ≡ awaitCount kind → start ≤ pc
             → Reading code parameter y l budget b start end (pc + 1) (awaits + k) m m₁
-        reading-more row kind k outs m₁ i lt wide all out none ob s aw ek sp =
+        reading-more {row} kind {k} {outs} {m₁} i lt wide all out none ob s aw ek sp =
             let same : cell m₁ (stateRow (y .blocks)) ≡ insertedAll outs (cell m′ (stateRow (y .blocks))) =
             subst (λ (z : ℕ). cell m₁ z ≡ insertedAll outs (cell m′ z)) i (ap (λ (z : Mem). cell z row) s ∙ cell-store-same m′ row _ lt) in
             record {

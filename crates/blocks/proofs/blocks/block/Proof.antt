@@ -4,10 +4,9 @@ use Prim.Native.Nat.{ℕ, _-_}
 use native.Mathlib.Omega.{arith}
 use denote.Ref.{now}
 use lib.ListN.{length}
-use Rattle.memory.specs.Scratch.{scratch, Room}
-use Rattle.blocks.proofs.BlockLaws.{emptied, spans, end-inside, offsets-kept}
-use Rattle.blocks.proofs.BlockLaws.{last-readable, last-targets, last-behind, last-next, still-ready, built-one}
-use Rattle.blocks.proofs.TransferLaws.{noted-stands}
+use Rattle.memory.specs.Scratch.{Room}
+use Rattle.blocks.proofs.BlockLaws.{emptied, spans, end-inside}
+use Rattle.blocks.proofs.BlockLaws.{last-inside, last-stands, last-read, last-targets, last-behind, last-next, still-ready, built-one}
 use Rattle.memory.proofs.ScratchLaws.{scratch-sized, place-instructions, place-blocks}
 use Rattle.blocks.proofs.blocks.block.Statement.{statement}
 use Rattle.blocks.proofs.blocks.block.Tie as tie
@@ -55,13 +54,8 @@ sub-get c =
     let empty = c .before .before .before .before .before .before .before .empty in
     let get = c .before .before .before .get in
     let get2 = c .before .get2 in
-    let em = emptied (now (args .sheet)) (args .script) (args .y) (scratch (args .y) (now (args .s))) (pre .1) (args .index) (pre .2)
-    (scratch-sized (now (args .s)) (pre .0)) _ _ (span .ensures) (empty .ensures) in
-    let sp = spans (now (args .sheet)) (args .script) (args .y) (scratch (args .y) (now (args .s))) (pre .1) (args .index) (pre .2)
-    (scratch (args .y) (empty .last .0)) em (get .result) (get2 .result) (get .ensures) (get2 .ensures) in
-    let inside = end-inside (now (args .sheet)) (args .script) (args .y) (scratch (args .y) (now (args .s))) (pre .1) (args .index) (pre .2)
-    (scratch (args .y) (empty .last .0)) em (get .result) (get2 .result) (get .ensures) (get2 .ensures) in
-    omega (arith, sp .some)
+    let em = emptied (pre .1) (pre .2) (scratch-sized (now (args .s)) (pre .0)) (span .ensures) (empty .ensures) in
+    omega (arith, spans (pre .1) (pre .2) em (get .ensures) (get2 .ensures) .some)
 
 get-requires-3 : tie.Need-get-requires-3
 get-requires-3 c κs =
@@ -72,15 +66,10 @@ get-requires-3 c κs =
     let empty = c .before .before .before .before .before .before .before .empty in
     let get = c .before .before .before .get in
     let get2 = c .before .get2 in
-    let em = emptied (now (args .sheet)) (args .script) (args .y) (scratch (args .y) (now (args .s))) (pre .1) (args .index) (pre .2)
-    (scratch-sized (now (args .s)) (pre .0)) _ _ (span .ensures) (empty .ensures) in
-    let sp = spans (now (args .sheet)) (args .script) (args .y) (scratch (args .y) (now (args .s))) (pre .1) (args .index) (pre .2)
-    (scratch (args .y) (empty .last .0)) em (get .result) (get2 .result) (get .ensures) (get2 .ensures) in
-    let inside = end-inside (now (args .sheet)) (args .script) (args .y) (scratch (args .y) (now (args .s))) (pre .1) (args .index) (pre .2)
-    (scratch (args .y) (empty .last .0)) em (get .result) (get2 .result) (get .ensures) (get2 .ensures) in (
+    let em = emptied (pre .1) (pre .2) (scratch-sized (now (args .s)) (pre .0)) (span .ensures) (empty .ensures) in (
       subst (λ (n : ℕ). Room (args .y) n) (sym (empty .kept .0 ∙ span .kept .0)) (pre .0),
       place-instructions (args .y) 0 (get2 .result - 1)
-          (omega arith) (omega (arith, sp .some, inside)),
+          (omega arith) (last-inside (pre .1) (pre .2) em (get .ensures) (get2 .ensures)),
     )
 
 instruction-at-requires : tie.Need-instruction-at-requires
@@ -93,16 +82,8 @@ instruction-at-requires c κs =
     let get = c .before .before .before .before .get in
     let get2 = c .before .before .get2 in
     let get3 = c .get3 in
-    let em = emptied (now (args .sheet)) (args .script) (args .y) (scratch (args .y) (now (args .s))) (pre .1) (args .index) (pre .2)
-    (scratch-sized (now (args .s)) (pre .0)) _ _ (span .ensures) (empty .ensures) in
-    let sp = spans (now (args .sheet)) (args .script) (args .y) (scratch (args .y) (now (args .s))) (pre .1) (args .index) (pre .2)
-    (scratch (args .y) (empty .last .0)) em (get .result) (get2 .result) (get .ensures) (get2 .ensures) in
-    let inside = end-inside (now (args .sheet)) (args .script) (args .y) (scratch (args .y) (now (args .s))) (pre .1) (args .index) (pre .2)
-    (scratch (args .y) (empty .last .0)) em (get .result) (get2 .result) (get .ensures) (get2 .ensures) in
-    noted-stands (now (args .sheet)) (args .script) (args .y) (scratch (args .y) (now (args .s))) (scratch (args .y) (empty .last .0)) (pre .1)
-    (offsets-kept (now (args .sheet)) (args .script) (args .y) (scratch (args .y) (now (args .s))) (pre .1) (args .index) (pre .2)
-    (scratch (args .y) (empty .last .0)) em (get .result) (get2 .result) (get .ensures) (get2 .ensures)) (get2 .result - 1) (get3 .result)
-    (omega (arith, sp .some, inside)) (get3 .ensures)
+    let em = emptied (pre .1) (pre .2) (scratch-sized (now (args .s)) (pre .0)) (span .ensures) (empty .ensures) in
+    last-stands (pre .1) (pre .2) em (get .ensures) (get2 .ensures) (get3 .ensures)
 
 successors-requires : tie.Need-successors-requires
 successors-requires c κs =
@@ -115,20 +96,12 @@ successors-requires c κs =
     let get2 = c .before .before .before .before .get2 in
     let get3 = c .before .before .get3 in
     let instruction-at = c .before .instruction-at in
-    let em = emptied (now (args .sheet)) (args .script) (args .y) (scratch (args .y) (now (args .s))) (pre .1) (args .index) (pre .2)
-    (scratch-sized (now (args .s)) (pre .0)) _ _ (span .ensures) (empty .ensures) in (
-      last-readable (now (args .sheet)) (args .script) (args .y) (scratch (args .y) (now (args .s))) (pre .1) (args .index) (pre .2)
-          (scratch (args .y) (empty .last .0)) em (get .result) (get2 .result) (get .ensures) (get2 .ensures) (get3 .result) (get3 .ensures) _
-          (instruction-at .ensures),
+    let em = emptied (pre .1) (pre .2) (scratch-sized (now (args .s)) (pre .0)) (span .ensures) (empty .ensures) in (
+      last-read (pre .1) (pre .2) em (get .ensures) (get2 .ensures) (get3 .ensures) (instruction-at .ensures) .readable,
       subst (λ (n : ℕ). Room (args .y) n) (sym (empty .kept .0 ∙ span .kept .0)) (pre .0),
       pre .2,
-      last-targets
-          (now (args .sheet)) (args .script) (args .y) (scratch (args .y) (now (args .s))) (pre .1) (args .index) (pre .2)
-          (scratch (args .y) (empty .last .0)) em (get .result) (get2 .result) (get .ensures) (get2 .ensures) (get3 .result) (get3 .ensures) _
-          (instruction-at .ensures),
-      last-behind (now (args .sheet)) (args .script) (args .y) (scratch (args .y) (now (args .s))) (pre .1) (args .index)
-          (pre .2) (scratch (args .y) (empty .last .0)) em (get .result) (get2 .result) (get .ensures) (get2 .ensures) (get3 .result)
-          (get3 .ensures) _ (instruction-at .ensures),
+      last-targets (pre .1) (pre .2) em (get .ensures) (get2 .ensures) (get3 .ensures) (instruction-at .ensures),
+      last-behind (pre .1) (pre .2) em (get .ensures) (get2 .ensures) (get3 .ensures) (instruction-at .ensures),
     )
 
 transfer-requires : tie.Need-transfer-requires
@@ -143,23 +116,14 @@ transfer-requires c κs =
     let get3 = c .before .before .before .before .before .before .get3 in
     let instruction-at = c .before .before .before .before .before .instruction-at in
     let successors = c .before .before .before .successors in
-    let em = emptied (now (args .sheet)) (args .script) (args .y) (scratch (args .y) (now (args .s))) (pre .1) (args .index) (pre .2)
-    (scratch-sized (now (args .s)) (pre .0)) _ _ (span .ensures) (empty .ensures) in
-    let sp = spans (now (args .sheet)) (args .script) (args .y) (scratch (args .y) (now (args .s))) (pre .1) (args .index) (pre .2)
-    (scratch (args .y) (empty .last .0)) em (get .result) (get2 .result) (get .ensures) (get2 .ensures) in
-    let inside = end-inside (now (args .sheet)) (args .script) (args .y) (scratch (args .y) (now (args .s))) (pre .1) (args .index) (pre .2)
-    (scratch (args .y) (empty .last .0)) em (get .result) (get2 .result) (get .ensures) (get2 .ensures) in
+    let em = emptied (pre .1) (pre .2) (scratch-sized (now (args .s)) (pre .0)) (span .ensures) (empty .ensures) in
     let room : Room (args .y) (length (empty .last .0)) = subst (λ (n : ℕ). Room (args .y) n) (sym (empty .kept .0 ∙ span .kept .0)) (pre .0) in
-    let next = last-next (now (args .sheet)) (args .script) (args .y) (scratch (args .y) (now (args .s))) (pre .1) (args .index) (pre .2)
-    (scratch (args .y) (empty .last .0)) em (get .result) (get2 .result) (get .ensures) (get2 .ensures) (get3 .result) (get3 .ensures) _
-    (instruction-at .ensures) in (
+    let next = last-next (pre .1) (pre .2) em (get .ensures) (get2 .ensures) (get3 .ensures) (instruction-at .ensures) in (
       subst (λ (n : ℕ). Room (args .y) n) (sym (successors .kept .1 .0)) room,
-      still-ready (now (args .sheet)) (args .script) (args .y)
-          (scratch (args .y) (now (args .s))) (pre .1) (args .index) (pre .2) (scratch (args .y) (empty .last .0)) em (get .result) (get2 .result)
-          (get .ensures) (get2 .ensures) (scratch-sized (empty .last .0) room) _ next _ (successors .ensures),
+      still-ready (pre .1) (pre .2) em (get .ensures) (get2 .ensures) (scratch-sized (empty .last .0) room) next (successors .ensures),
       pre .2,
-      omega (arith, sp .some),
-      inside,
+      omega (arith, spans (pre .1) (pre .2) em (get .ensures) (get2 .ensures) .some),
+      end-inside (pre .1) (pre .2) em (get .ensures) (get2 .ensures),
     )
 
 same-length : tie.Need-same-length
@@ -184,15 +148,10 @@ returns c =
     let instruction-at = c .before .before .before .before .before .before .before .before .instruction-at in
     let successors = c .before .before .before .before .before .before .successors in
     let transfer = c .before .before .transfer in
-    let em = emptied (now (args .sheet)) (args .script) (args .y) (scratch (args .y) (now (args .s))) (pre .1) (args .index) (pre .2)
-    (scratch-sized (now (args .s)) (pre .0)) _ _ (span .ensures) (empty .ensures) in
+    let em = emptied (pre .1) (pre .2) (scratch-sized (now (args .s)) (pre .0)) (span .ensures) (empty .ensures) in
     let room : Room (args .y) (length (empty .last .0)) = subst (λ (n : ℕ). Room (args .y) n) (sym (empty .kept .0 ∙ span .kept .0)) (pre .0) in
-    let next = last-next (now (args .sheet)) (args .script) (args .y) (scratch (args .y) (now (args .s))) (pre .1) (args .index) (pre .2)
-    (scratch (args .y) (empty .last .0)) em (get .result) (get2 .result) (get .ensures) (get2 .ensures) (get3 .result) (get3 .ensures) _
-    (instruction-at .ensures) in
-    built-one (now (args .sheet)) (args .script) (args .y) (scratch (args .y) (now (args .s))) (pre .1) (args .index) (pre .2)
-    (scratch (args .y) (empty .last .0)) em (get .result) (get2 .result) (get .ensures) (get2 .ensures) (scratch-sized (empty .last .0) room) _
-    next _ (successors .ensures) (args .limits) (args .budget) _ _ (transfer .ensures)
+    let next = last-next (pre .1) (pre .2) em (get .ensures) (get2 .ensures) (get3 .ensures) (instruction-at .ensures) in
+    built-one (pre .1) (pre .2) em (get .ensures) (get2 .ensures) (scratch-sized (empty .last .0) room) next (successors .ensures) (transfer .ensures)
 
 pub block-spec : {M : Type 1} → statement M
 block-spec =

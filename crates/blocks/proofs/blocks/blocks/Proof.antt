@@ -2,7 +2,6 @@
 use mathlib.Core.Path.{_≡_, refl, sym, subst, _∙_}
 use Prim.Native.Nat.{ℕ, _-_, _≤_}
 use native.Mathlib.Omega.{arith}
-use denote.Ref.{now}
 use lib.ListN.{length}
 use borrow.Author.Needs.{needs}
 use Rattle.memory.specs.Scratch.{scratch, Room}
@@ -24,7 +23,7 @@ abbrev μ-loop : tie.MeasureT-loop
 
 loop-holds : tie.Need-loop-holds Inv-loop μ-loop
 loop-holds c =
-    (omega arith, refl, refl, building-none _ _ _ _ _ _)
+    (omega arith, refl, refl, building-none)
 
 fresh-requires : tie.Need-fresh-requires Inv-loop μ-loop
 fresh-requires c κs =
@@ -63,15 +62,12 @@ same-length-2 c =
 returns : tie.Need-returns Inv-loop μ-loop
 returns c =
     let early = c .before .before .before .before .before .before .before .before .before .before in
-    let args = early .before .before .before .before .before .before .args in
     let pre = early .before .before .before .before .before .before .pre in
     let loop = c .before .before .before .before .before .before .before .before .before .before .before .before .loop in
     let test = c .before .before .before .before .before .before .before .before .before .before .if1 in
     let block = c .before .before .before .before .block in
     let told = c .enum-told in
-    built-over (flowCode (partsOf (now (args .sheet)))) (args .y) (args .limits) (args .budget) (loop .left) (loop .index)
-    (scratch (args .y) (now (args .s))) (scratch (args .y) (loop .s)) (sets (args .y) (loop .t)) (loop .inv .3) (test .taken) _ _ _
-    (block .ensures) (sets (args .y) (now (args .t))) _ (pre .2 .fits .blocks) (told .given .1)
+    built-over (loop .inv .3) (test .taken) (block .ensures) (pre .2 .fits .blocks) (told .given .1)
 
 add-index : tie.Need-add-index Inv-loop μ-loop
 add-index c =
@@ -95,10 +91,7 @@ loop-again c =
       omega (arith, test .taken),
       block .kept .1 .0 ∙ loop .inv .1,
       fresh .kept .0 ∙ loop .inv .2,
-      building-more
-          (flowCode (partsOf (now (args .sheet)))) (args .y) (args .limits) (args .budget) (loop .left) (loop .index)
-          (scratch (args .y) (now (args .s))) (scratch (args .y) (loop .s)) (sets (args .y) (loop .t)) (loop .inv .3) (test .taken) _ _ _
-          (block .ensures) _ (bound .given .1) (omega (arith, test .taken, sets-length (args .y) (loop .t))) (fresh .ensures),
+      building-more (loop .inv .3) (test .taken) (block .ensures) (bound .given .1) (omega (arith, test .taken, sets-length (args .y) (loop .t))) (fresh .ensures),
     )
 
 same-length-3 : tie.Need-same-length-3 Inv-loop μ-loop
@@ -113,13 +106,10 @@ same-length-4 c =
 
 returns-2 : tie.Need-returns-2 Inv-loop μ-loop
 returns-2 c =
-    let args = c .before .before .before .before .before .before .args in
     let pre = c .before .before .before .before .before .before .pre in
     let loop = c .before .before .loop in
     let test = c .if1 in
-    built-all (flowCode (partsOf (now (args .sheet)))) (args .y) (args .limits) (args .budget) (loop .left) (loop .index)
-    (scratch (args .y) (now (args .s))) (scratch (args .y) (loop .s)) (sets (args .y) (loop .t)) (loop .inv .3) (sets (args .y) (now (args .t)))
-    (omega (arith, test .left, loop .inv .0)) (pre .2 .fits .blocks)
+    built-all (loop .inv .3) (omega (arith, test .left, loop .inv .0)) (pre .2 .fits .blocks)
 
 pub blocks-spec : {M : Type 1} → statement M
 blocks-spec =

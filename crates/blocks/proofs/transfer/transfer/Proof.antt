@@ -2,7 +2,6 @@
 use mathlib.Core.Path.{_≡_, refl, sym, ap, subst, _∙_}
 use Prim.Native.Nat.{ℕ, _-_, _≤_}
 use native.Mathlib.Omega.{arith}
-use denote.Ref.{now}
 use lib.ListN.{length}
 use borrow.Author.Needs.{needs}
 use Rattle.memory.specs.Scratch.{scratch, Room}
@@ -25,7 +24,7 @@ abbrev μ-loop : tie.MeasureT-loop
 loop-holds : tie.Need-loop-holds Inv-loop μ-loop
 loop-holds c =
     let pre = c .before .before .pre in
-    (omega arith, pre .3, refl, transferring-none _ _ _ _ _ _)
+    (omega arith, pre .3, refl, transferring-none)
 
 get-requires : tie.Need-get-requires Inv-loop μ-loop
 get-requires c κs =
@@ -45,8 +44,7 @@ instruction-at-requires c κs =
     let loop = c .before .before .before .loop in
     let test = c .before .before .loop-test in
     let get = c .get in
-    noted-stands (now (args .sheet)) (args .script) (args .y) _ (scratch (args .y) (loop .s)) (pre .1) (offsets-stay (loop .inv .3)) (loop .pc) _
-    (omega (arith, test .taken, pre .4)) (get .ensures)
+    noted-stands (pre .1) (scratch (args .y) (loop .s)) (offsets-stay (loop .inv .3)) (loop .pc) (omega (arith, test .taken, pre .4)) (get .ensures)
 
 slot-input-count-requires : tie.Need-slot-input-count-requires Inv-loop μ-loop
 slot-input-count-requires c κs =
@@ -56,8 +54,7 @@ slot-input-count-requires c κs =
     let test = c .before .before .before .loop-test in
     let get = c .before .get in
     let instruction-at = c .instruction-at in
-    noted-read (now (args .sheet)) (args .script) (args .y) _ (scratch (args .y) (loop .s)) (pre .1) (offsets-stay (loop .inv .3)) (loop .pc) _
-    (omega (arith, test .taken, pre .4)) (get .ensures) _ (instruction-at .ensures) .readable
+    noted-read (pre .1) (scratch (args .y) (loop .s)) (offsets-stay (loop .inv .3)) (loop .pc) (omega (arith, test .taken, pre .4)) (get .ensures) (instruction-at .ensures) .readable
 
 add-put : tie.Need-add-put Inv-loop μ-loop
 add-put c =
@@ -69,8 +66,7 @@ add-put c =
     let instruction-at = c .before .before .instruction-at in
     let good = c .before .before .before .before .before .before .before .before .before .good in
     let slot-input-count = c .before .slot-input-count in
-    let r = noted-read (now (args .sheet)) (args .script) (args .y) _ (scratch (args .y) (loop .s)) (pre .1) (offsets-stay (loop .inv .3))
-    (loop .pc) _ (omega (arith, test .taken, pre .4)) (get .ensures) _ (instruction-at .ensures) in
+    let r = noted-read (pre .1) (scratch (args .y) (loop .s)) (offsets-stay (loop .inv .3)) (loop .pc) (omega (arith, test .taken, pre .4)) (get .ensures) (instruction-at .ensures) in
     omega (arith, good .0, r .few, r .readable .within, slot-input-count .ensures)
 
 put-requires : tie.Need-put-requires Inv-loop μ-loop
@@ -94,8 +90,7 @@ add-charge c =
     let instruction-at = c .before .before .before .before .before .instruction-at in
     let good = c .before .before .before .before .before .before .before .before .before .before .before .before .good in
     let slot-input-count = c .before .before .before .before .slot-input-count in
-    let r = noted-read (now (args .sheet)) (args .script) (args .y) _ (scratch (args .y) (loop .s)) (pre .1) (offsets-stay (loop .inv .3))
-    (loop .pc) _ (omega (arith, test .taken, pre .4)) (get .ensures) _ (instruction-at .ensures) in
+    let r = noted-read (pre .1) (scratch (args .y) (loop .s)) (offsets-stay (loop .inv .3)) (loop .pc) (omega (arith, test .taken, pre .4)) (get .ensures) (instruction-at .ensures) in
     omega (arith, good .0, r .few, r .readable .within, slot-input-count .ensures)
 
 charge-requires : tie.Need-charge-requires Inv-loop μ-loop
@@ -123,12 +118,8 @@ returns c =
     let put = c .before .before .before .before .before .put in
     let charge = c .before .before .charge in
     let told = c .enum-told in
-    let r = noted-read (now (args .sheet)) (args .script) (args .y) _ (scratch (args .y) (loop .s)) (pre .1) (offsets-stay (loop .inv .3))
-    (loop .pc) _ (omega (arith, test .taken, pre .4)) (get .ensures) _ (instruction-at .ensures) in
-    transferred-over (flowCode (partsOf (now (args .sheet)))) (args .limits) (args .budget) (args .block) (args .start)
-    (scratch (args .y) (now (args .s))) (loop .left) (loop .pc) (slot-input-count .result) (scratch (args .y) (loop .s)) _ (loop .inv .0)
-    (loop .inv .3) (slot-input-count .ensures ∙ ap length (sym (r .inputs-are))) (put .ensures) _ (charge .ensures) (args .end) _ (test .taken)
-    (told .given .1)
+    let r = noted-read (pre .1) (scratch (args .y) (loop .s)) (offsets-stay (loop .inv .3)) (loop .pc) (omega (arith, test .taken, pre .4)) (get .ensures) (instruction-at .ensures) in
+    transferred-over (loop .inv .0) (loop .inv .3) (slot-input-count .ensures ∙ ap length (sym (r .inputs-are))) (put .ensures) (charge .ensures) (test .taken) (told .given .1)
 
 use-inputs-requires : tie.Need-use-inputs-requires Inv-loop μ-loop
 use-inputs-requires c κs =
@@ -141,8 +132,7 @@ use-inputs-requires c κs =
     let instruction-at = c .before .before .before .before .before .before .before .before .before .before .instruction-at in
     let put = c .before .before .before .before .before .before .before .put in
     let slot-input-count = c .before .before .before .before .before .before .before .before .before .slot-input-count in
-    let r = noted-read (now (args .sheet)) (args .script) (args .y) _ (scratch (args .y) (loop .s)) (pre .1) (offsets-stay (loop .inv .3))
-    (loop .pc) _ (omega (arith, test .taken, pre .4)) (get .ensures) _ (instruction-at .ensures) in (
+    let r = noted-read (pre .1) (scratch (args .y) (loop .s)) (offsets-stay (loop .inv .3)) (loop .pc) (omega (arith, test .taken, pre .4)) (get .ensures) (instruction-at .ensures) in (
       r .readable,
       subst (λ (n : ℕ). Room (args .y) n) (sym (put .kept .0 ∙ loop .inv .2)) (pre .0),
       pre .2,
@@ -161,8 +151,7 @@ define-output-requires c κs =
     let instruction-at = early .before .before .before .before .instruction-at in
     let use-inputs = c .before .before .before .use-inputs in
     let put = c .before .before .before .before .before .before .before .before .before .before .before .put in
-    let r = noted-read (now (args .sheet)) (args .script) (args .y) _ (scratch (args .y) (loop .s)) (pre .1) (offsets-stay (loop .inv .3))
-    (loop .pc) _ (omega (arith, test .taken, pre .4)) (get .ensures) _ (instruction-at .ensures) in (
+    let r = noted-read (pre .1) (scratch (args .y) (loop .s)) (offsets-stay (loop .inv .3)) (loop .pc) (omega (arith, test .taken, pre .4)) (get .ensures) (instruction-at .ensures) in (
       r .readable,
       subst (λ (n : ℕ). Room (args .y) n) (sym (use-inputs .kept .1 .0 ∙ put .kept .0 ∙ loop .inv .2)) (pre .0),
       pre .2,
@@ -194,17 +183,12 @@ loop-again c =
     let slot-input-count = early .before .before .before .before .before .before .slot-input-count in
     let charge = c .before .before .before .before .before .before .before .before .before .before .before .charge in
     let bound = c .before .before .before .before .before .before .before .before .before .c in
-    let r = noted-read (now (args .sheet)) (args .script) (args .y) _ (scratch (args .y) (loop .s)) (pre .1) (offsets-stay (loop .inv .3))
-    (loop .pc) _ (omega (arith, test .taken, pre .4)) (get .ensures) _ (instruction-at .ensures) in
+    let r = noted-read (pre .1) (scratch (args .y) (loop .s)) (offsets-stay (loop .inv .3)) (loop .pc) (omega (arith, test .taken, pre .4)) (get .ensures) (instruction-at .ensures) in
     let room : Room (args .y) (length (loop .s)) = subst (λ (n : ℕ). Room (args .y) n) (sym (loop .inv .2)) (pre .0) in (
       omega (arith, loop .inv .0),
       omega (arith, test .taken),
       define-output .kept .1 .0 ∙ use-inputs .kept .1 .0 ∙ put .kept .0 ∙ loop .inv .2,
-      transferring-more (flowCode (partsOf (now (args .sheet)))) (args .limits) (args .budget) (args .block) (args .start)
-          (scratch (args .y) (now (args .s))) (loop .left) (loop .pc) (slot-input-count .result) (scratch (args .y) (loop .s)) _ (loop .inv .0)
-          (loop .inv .3) (slot-input-count .ensures ∙ ap length (sym (r .inputs-are))) (put .ensures) _ (charge .ensures) (args .y)
-          (scratch-sized (loop .s) room) _ (bound .given .1) _ _ _ _ (r .inputs-are) (r .outputs-are) (omega (arith, test .taken, pre .4)) (pre .2)
-          (use-inputs .ensures) (define-output .ensures),
+      transferring-more (loop .inv .0) (loop .inv .3) (slot-input-count .ensures ∙ ap length (sym (r .inputs-are))) (put .ensures) (charge .ensures) (args .y) (scratch-sized (loop .s) room) (bound .given .1) (r .inputs-are) (r .outputs-are) (omega (arith, test .taken, pre .4)) (pre .2) (use-inputs .ensures) (define-output .ensures),
     )
 
 same-length-2 : tie.Need-same-length-2 Inv-loop μ-loop
@@ -212,11 +196,9 @@ same-length-2 c = search needs
 
 returns-2 : tie.Need-returns-2 Inv-loop μ-loop
 returns-2 c =
-    let args = c .before .before .before .before .args in
     let loop = c .before .loop in
     let test = c .loop-test in
-    transferred-all (flowCode (partsOf (now (args .sheet)))) (args .limits) (args .budget) (args .block) (args .start)
-    (scratch (args .y) (now (args .s))) (loop .left) (loop .pc) (args .end) _ (omega (arith, test .left, loop .inv .1)) (loop .inv .3)
+    transferred-all (omega (arith, test .left, loop .inv .1)) (loop .inv .3)
 
 pub transfer-spec : {M : Type 1} → statement M
 transfer-spec =

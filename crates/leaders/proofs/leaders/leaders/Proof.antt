@@ -22,7 +22,7 @@ mark-all-requires : tie.Need-mark-all-requires
 mark-all-requires c κs = (
   c .before .before .before .before .before .before .before .before .before .before .before .pre .0,
   subst (λ (n : ℕ). Room (marking (c .before .before .before .before .before .before .before .before .before .before .before .args .script)) n) (sym (c .before .before .before .put .kept .0 ∙ c .before .before .before .before .before .before .before .clear .kept .0)) (c .before .before .before .before .before .before .before .before .before .before .before .pre .1),
-  begun (c .before .before .before .before .before .before .before .before .before .before .before .args .script) _ _ _ (scratch-sized (now (c .before .before .before .before .before .before .before .before .before .before .before .args .s)) (c .before .before .before .before .before .before .before .before .before .before .before .pre .1)) (c .before .before .before .before .before .before .before .clear .ensures) (c .before .before .before .put .ensures) (c .before .before .before .before .before .before .before .before .before .before .before .pre .0 .some-code),
+  begun (c .before .before .before .before .before .before .before .before .before .before .before .args .script) (scratch-sized (now (c .before .before .before .before .before .before .before .before .before .before .before .args .s)) (c .before .before .before .before .before .before .before .before .before .before .before .pre .1)) (c .before .before .before .before .before .before .before .clear .ensures) (c .before .before .before .put .ensures) (c .before .before .before .before .before .before .before .before .before .before .before .pre .0 .some-code),
 )
 
 same-length : tie.Need-same-length
@@ -30,7 +30,7 @@ same-length c = search needs
 
 returns : tie.Need-returns
 returns c =
-    leads-from (c .before .before .before .before .before .before .before .before .before .before .before .before .before .before .args .script) _ _ _ (scratch-sized (now (c .before .before .before .before .before .before .before .before .before .before .before .before .before .before .args .s)) (c .before .before .before .before .before .before .before .before .before .before .before .before .before .before .pre .1)) (c .before .before .before .before .before .before .before .before .before .before .clear .ensures) (c .before .before .before .before .before .before .put .ensures) _ _ _ _ _ (c .before .before .mark-all .ensures)
+    leads-from (c .before .before .before .before .before .before .before .before .before .before .before .before .before .before .args .script) (scratch-sized (now (c .before .before .before .before .before .before .before .before .before .before .before .before .before .before .args .s)) (c .before .before .before .before .before .before .before .before .before .before .before .before .before .before .pre .1)) (c .before .before .before .before .before .before .before .before .before .before .clear .ensures) (c .before .before .before .before .before .before .put .ensures) (c .before .before .mark-all .ensures)
 
 pub leaders-spec : {M : Type 1} → statement M
 leaders-spec =

@@ -27,7 +27,7 @@ abbrev μ-loop : tie.MeasureT-loop
 loop-holds : tie.Need-loop-holds Inv-loop μ-loop
 unfolding offsetOf
 loop-holds c =
-    (omega arith, refl, refl, refl, charged-none (c .before .before .args .limits) (c .before .before .args .budget), marking-none _ _ _ (c .before .before .pre .2))
+    (omega arith, refl, refl, refl, charged-none (c .before .before .args .limits) (c .before .before .args .budget), marking-none (c .before .before .pre .2))
 
 charge-requires : tie.Need-charge-requires Inv-loop μ-loop
 charge-requires c κs = search needs
@@ -44,7 +44,7 @@ same-length c = search needs
 returns : tie.Need-returns Inv-loop μ-loop
 returns c =
     let l = c .before .before .before .before .before .loop in
-    leads-over (now (c .before .before .before .before .before .before .before .before .args .sheet)) (c .before .before .before .before .before .before .before .before .args .script) (c .before .before .before .before .before .before .before .before .pre .0) (c .before .before .before .before .before .before .before .before .args .limits) (c .before .before .before .before .before .before .before .before .args .budget) (l .left) _ _ _ _ (l .pc) (l .inv .5) (c .before .before .before .if1 .taken) (l .inv .4) (c .before .before .charge .ensures) (c .enum-told .given .1)
+    leads-over (c .before .before .before .before .before .before .before .before .pre .0) (l .inv .5) (c .before .before .before .if1 .taken) (l .inv .4) (c .before .before .charge .ensures) (c .enum-told .given .1)
 
 instruction-at-requires : tie.Need-instruction-at-requires Inv-loop μ-loop
 instruction-at-requires c κs =
@@ -59,9 +59,9 @@ put-requires c κs =
 mark-requires : tie.Need-mark-requires Inv-loop μ-loop
 mark-requires c κs =
     let l = c .before .before .before .before .before .before .before .before .before .before .before .before .loop in (
-      readable-at (now (c .before .before .before .before .before .before .before .before .before .before .before .before .before .before .before .args .sheet)) (c .before .before .before .before .before .before .before .before .before .before .before .before .before .before .before .args .script) (c .before .before .before .before .before .before .before .before .before .before .before .before .before .before .before .pre .0) (l .pc) (l .at) _ (c .before .before .before .before .before .instruction-at .ensures) (l .inv .3) (c .before .before .before .before .before .before .before .before .before .before .if1 .taken),
+      readable-at (c .before .before .before .before .before .before .before .before .before .before .before .before .before .before .before .pre .0) (l .pc) (c .before .before .before .before .before .instruction-at .ensures) (l .inv .3) (c .before .before .before .before .before .before .before .before .before .before .if1 .taken),
       subst (λ (n : ℕ). Room (marking (c .before .before .before .before .before .before .before .before .before .before .before .before .before .before .before .args .script)) n) (sym (c .before .before .before .put .kept .0 ∙ l .inv .2)) (c .before .before .before .before .before .before .before .before .before .before .before .before .before .before .before .pre .1),
-      targets-at (now (c .before .before .before .before .before .before .before .before .before .before .before .before .before .before .before .args .sheet)) (c .before .before .before .before .before .before .before .before .before .before .before .before .before .before .before .args .script) (c .before .before .before .before .before .before .before .before .before .before .before .before .before .before .before .pre .0) (l .pc) (l .at) _ (c .before .before .before .before .before .instruction-at .ensures) (l .inv .3) (c .before .before .before .before .before .before .before .before .before .before .if1 .taken),
+      targets-at (c .before .before .before .before .before .before .before .before .before .before .before .before .before .before .before .pre .0) (l .pc) (c .before .before .before .before .before .instruction-at .ensures) (l .inv .3) (c .before .before .before .before .before .before .before .before .before .before .if1 .taken),
       c .before .before .before .before .before .before .before .before .before .before .if1 .taken,
     )
 
@@ -78,10 +78,9 @@ loop-again c =
       omega (arith, c .before .before .before .before .before .before .before .before .before .before .before .before .before .if1 .taken),
       refl,
       search needs,
-      next-at (now (c .before .before .before .before .before .before .before .before .before .before .before .before .before .before .before .before .before .before .args .sheet)) (c .before .before .before .before .before .before .before .before .before .before .before .before .before .before .before .before .before .before .args .script) (c .before .before .before .before .before .before .before .before .before .before .before .before .before .before .before .before .before .before .pre .0) (l .pc) (l .at) _ (c .before .before .before .before .before .before .before .before .instruction-at .ensures) (l .inv .3),
+      next-at (c .before .before .before .before .before .before .before .before .before .before .before .before .before .before .before .before .before .before .pre .0) (l .pc) (c .before .before .before .before .before .before .before .before .instruction-at .ensures) (l .inv .3),
       ones-more (c .before .before .before .before .before .before .before .before .before .before .before .before .before .before .before .before .before .before .args .limits) (c .before .before .before .before .before .before .before .before .before .before .before .before .before .before .before .before .before .before .args .budget) (l .pc) (l .inv .4) ∙ sym (c .before .before .before .before .before .before .before .before .before .before .before .before .charge .ensures) ∙ c .before .before .before .before .before .before .before .before .before .before .c .given .1,
-      marking-placed (now (c .before .before .before .before .before .before .before .before .before .before .before .before .before .before .before .before .before .before .args .sheet)) (c .before .before .before .before .before .before .before .before .before .before .before .before .before .before .before .before .before .before .args .script) (c .before .before .before .before .before .before .before .before .before .before .before .before .before .before .before .before .before .before .pre .0) (l .pc) (l .at) _ (c .before .before .before .before .before .before .before .before .instruction-at .ensures) (l .inv .3) _ _ _ _ (l .inv .5)
-          (scratch-sized (l .s) room) (c .before .before .before .before .before .before .before .before .before .before .before .before .before .if1 .taken) (c .before .before .before .before .before .before .put .ensures) (c .before .before .mark .ensures),
+      marking-placed (c .before .before .before .before .before .before .before .before .before .before .before .before .before .before .before .before .before .before .pre .0) (l .pc) (c .before .before .before .before .before .before .before .before .instruction-at .ensures) (l .inv .3) (l .inv .5) (scratch-sized (l .s) room) (c .before .before .before .before .before .before .before .before .before .before .before .before .before .if1 .taken) (c .before .before .before .before .before .before .put .ensures) (c .before .before .mark .ensures),
     )
 
 same-length-2 : tie.Need-same-length-2 Inv-loop μ-loop
@@ -90,7 +89,7 @@ same-length-2 c = search needs
 returns-2 : tie.Need-returns-2 Inv-loop μ-loop
 returns-2 c =
     let l = c .before .before .loop in
-    leads-all (now (c .before .before .before .before .before .args .sheet)) (c .before .before .before .before .before .args .script) (c .before .before .before .before .before .pre .0) (c .before .before .before .before .before .args .limits) (c .before .before .before .before .before .args .budget) (l .left) _ _ (l .pc) (l .inv .5) (omega arith) (l .inv .4)
+    leads-all (c .before .before .before .before .before .pre .0) (l .inv .5) (omega arith) (l .inv .4)
 
 pub mark-all-spec : {M : Type 1} → statement M
 mark-all-spec =

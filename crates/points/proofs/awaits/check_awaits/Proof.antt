@@ -4,14 +4,12 @@ use Prim.Native.Nat.{ℕ, _-_, _≤_}
 use native.Mathlib.Omega.{arith}
 use denote.Ref.{now}
 use lib.ListN.{length}
-use Rattle.memory.specs.Names.{liveStateRow}
 use Rattle.memory.specs.Scratch.{scratch, Room}
 use Rattle.memory.specs.Sets.{sets, SetsRoom}
 use Rattle.memory.proofs.SetsLaws.{sets-length}
 use Rattle.script.specs.Script.{flowCode}
 use Rattle.sheet.specs.Decode.{partsOf}
-use Rattle.points.proofs.ReadLaws.{coded-kept}
-use Rattle.points.proofs.BackwardLaws.{Awaiting, awaiting-none, awaiting-more, awaits-stopped, awaits-passed, room-before}
+use Rattle.points.proofs.BackwardLaws.{Awaiting, awaiting-none, awaiting-coded, awaiting-more, awaits-stopped, awaits-passed, room-before}
 use borrow.Author.Needs.{needs}
 use Rattle.points.proofs.awaits.check_awaits.Statement.{statement}
 use Rattle.points.proofs.awaits.check_awaits.Tie as tie
@@ -26,7 +24,7 @@ abbrev μ-loop : tie.MeasureT-loop
 
 loop-holds : tie.Need-loop-holds Inv-loop μ-loop
 loop-holds c =
-    (c .before .before .before .pre .3, omega arith, refl, refl, awaiting-none _ _ _ _ _ _ _ _ _)
+    (c .before .before .before .pre .3, omega arith, refl, refl, awaiting-none)
 
 sub-pc : tie.Need-sub-pc Inv-loop μ-loop
 sub-pc c =
@@ -42,8 +40,7 @@ check-instruction-requires c κs =
     let pc₁ : ℕ = loop .pc - 1 in (
       subst (λ (n : ℕ). Room (args .y) n) (sym (inv .2)) (pre .0),
       subst (λ (n : ℕ). SetsRoom (args .y) n) (sym (inv .3)) (pre .1),
-      coded-kept (now (args .sheet)) (args .script) (args .y) (scratch (args .y) (now (args .s))) (scratch (args .y) (loop .s))
-          (liveStateRow (args .y .blocks)) (omega arith) (omega arith) (pre .2) (inv .4 .others),
+      awaiting-coded (pre .2) (inv .4),
       omega (arith, test .taken, inv .1, pre .4),
       room-before (flowCode (partsOf (now (args .sheet)))) (args .start) (args .end) (loop .pc) pc₁ (args .place) (loop .next)
           (omega (arith, test .taken)) (omega (arith, test .taken)) (inv .1) (pre .5) (inv .4 .places),
@@ -70,15 +67,11 @@ same-length-2 c =
 
 returns : tie.Need-returns Inv-loop μ-loop
 returns c =
-    let args = c .before .before .before .before .before .before .before .before .before .before .before .before .before .before .args in
     let loop = c .before .before .before .before .before .before .before .before .before .before .loop in
     let test = c .before .before .before .before .before .before .before .before .before .loop-test in
     let inv = loop .inv in
     let call = c .before .before .before .before .before .before .check-instruction in
-    awaits-stopped (now (args .sheet)) (args .script) (args .y) (args .limits) (args .budget) (args .end) (args .place)
-    (scratch (args .y) (now (args .s))) (sets (args .y) (now (args .t))) (loop .left) (loop .pc) (loop .next) (scratch (args .y) (loop .s))
-    (sets (args .y) (loop .t)) (inv .4) (loop .pc - 1) (omega (arith, test .taken)) (inv .1) _ _ _ (call .ensures) (args .start)
-    (omega (arith, test .taken)) _ _ (c .enum-told .given .1)
+    awaits-stopped (inv .4) (omega (arith, test .taken)) (inv .1) (call .ensures) (omega (arith, test .taken)) (c .enum-told .given .1)
 
 loop-less : tie.Need-loop-less Inv-loop μ-loop
 loop-less c =
@@ -96,10 +89,7 @@ loop-again c =
       omega (arith, inv .1),
       call .kept .1 .0 ∙ inv .2,
       call .kept .1 .1 .0 ∙ inv .3,
-      awaiting-more (now (args .sheet)) (args .script) (args .y) (args .limits) (args .budget) (args .end) (args .place)
-          (scratch (args .y) (now (args .s))) (sets (args .y) (now (args .t))) (loop .left) (loop .pc) (loop .next) (scratch (args .y) (loop .s))
-          (sets (args .y) (loop .t)) (inv .4) (loop .pc - 1) (omega (arith, test .taken)) (inv .1) _ _ _ (call .ensures) _ _ (c .before .r .given .1)
-          (omega (arith, sets-length (args .y) (loop .t), inv .4 .places, pre .6)),
+      awaiting-more (inv .4) (omega (arith, test .taken)) (inv .1) (call .ensures) (c .before .r .given .1) (omega (arith, sets-length (args .y) (loop .t), inv .4 .places, pre .6)),
     )
 
 same-length-3 : tie.Need-same-length-3 Inv-loop μ-loop
@@ -112,12 +102,9 @@ same-length-4 c =
 
 returns-2 : tie.Need-returns-2 Inv-loop μ-loop
 returns-2 c =
-    let args = c .before .before .before .before .before .args in
     let loop = c .before .loop in
     let inv = loop .inv in
-    awaits-passed (now (args .sheet)) (args .script) (args .y) (args .limits) (args .budget) (args .end) (args .place)
-    (scratch (args .y) (now (args .s))) (sets (args .y) (now (args .t))) (loop .left) (loop .pc) (loop .next) (scratch (args .y) (loop .s))
-    (sets (args .y) (loop .t)) (inv .4) (args .start) (omega (arith, c .loop-test .left, inv .0))
+    awaits-passed (inv .4) (omega (arith, c .loop-test .left, inv .0))
 
 pub check-awaits-spec : {M : Type 1} → statement M
 check-awaits-spec =

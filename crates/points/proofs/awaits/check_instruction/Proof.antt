@@ -43,8 +43,7 @@ returns c =
     let args = c .before .before .before .before .before .before .before .before .before .before .args in
     let pre = c .before .before .before .before .before .before .before .before .before .before .pre in
     let m = scratch (args .y) (now (args .s)) in
-    let paid = noted-cost (now (args .sheet)) (args .script) (args .y) m (pre .2) (args .pc) (pre .3) _
-    (c .before .before .before .before .get .ensures) in
+    let paid = noted-cost (pre .2) (args .pc) (pre .3) (c .before .before .before .before .get .ensures) in
     instruction-over (now (args .sheet)) (args .script) (args .y) (args .limits) (args .budget) (args .pc) (args .place) m
     (sets (args .y) (now (args .t))) (pre .2) _ paid _ (c .before .before .before .charge .ensures) _ _ (c .before .enum-told .given .1)
     (c .over .ensures)
@@ -59,15 +58,14 @@ instruction-at-requires : tie.Need-instruction-at-requires
 instruction-at-requires c κs =
     let args = c .before .before .before .before .before .before .before .before .before .before .before .before .args in
     let pre = c .before .before .before .before .before .before .before .before .before .before .before .before .pre in
-    noted-stands (now (args .sheet)) (args .script) (args .y) (scratch (args .y) (now (args .s))) (pre .2) (args .pc) (pre .3) _ (c .get2 .ensures)
+    noted-stands (pre .2) (args .pc) (pre .3) (c .get2 .ensures)
 
 remove-output-requires : tie.Need-remove-output-requires
 remove-output-requires c κs =
     let args = c .before .before .before .before .before .before .before .before .before .before .before .before .before .before .args in
     let pre = c .before .before .before .before .before .before .before .before .before .before .before .before .before .before .pre in
     let live = c .before .before .before .before .before .before .before .before .before .before .live-state in
-    let r = noted-read (now (args .sheet)) (args .script) (args .y) (scratch (args .y) (now (args .s))) (pre .2) (args .pc) (pre .3) _
-    (c .before .before .get2 .ensures) _ (c .before .instruction-at .ensures) in
+    let r = noted-read (pre .2) (args .pc) (pre .3) (c .before .before .get2 .ensures) (c .before .instruction-at .ensures) in
     (r .readable, pre .0, record { low = omega (arith, live .ensures); high = omega (arith, live .ensures) }, r .output-below)
 
 sub-insert-inputs : tie.Need-sub-insert-inputs
@@ -75,8 +73,7 @@ sub-insert-inputs c =
     let cost = c .before .before .before .before .before .before .before .before .before .before .before .before in
     let start = cost .before .before .before .before .before .before in
     let args = start .args in
-    let m = scratch (args .y) (now (args .s)) in
-    omega (arith, noted-cost (now (args .sheet)) (args .script) (args .y) m (start .pre .2) (args .pc) (start .pre .3) _ (cost .get .ensures))
+    omega (arith, noted-cost (start .pre .2) (args .pc) (start .pre .3) (cost .get .ensures))
 
 insert-inputs-requires : tie.Need-insert-inputs-requires
 insert-inputs-requires c κs =
@@ -87,10 +84,8 @@ insert-inputs-requires c κs =
     let start = cost .before .before .before .before .before .before in
     let args = start .args in
     let pre = start .pre in
-    let m = scratch (args .y) (now (args .s)) in
-    let paid = noted-cost (now (args .sheet)) (args .script) (args .y) m (pre .2) (args .pc) (pre .3) _ (cost .get .ensures) in
-    let r = noted-read (now (args .sheet)) (args .script) (args .y) m (pre .2) (args .pc) (pre .3) _ (offset .get2 .ensures) _
-    (remove .before .before .instruction-at .ensures) in (
+    let paid = noted-cost (pre .2) (args .pc) (pre .3) (cost .get .ensures) in
+    let r = noted-read (pre .2) (args .pc) (pre .3) (offset .get2 .ensures) (remove .before .before .instruction-at .ensures) in (
       r .readable,
       subst (λ (n : ℕ). Room (args .y) n) (sym (remove .remove-output .kept .1 .0)) (pre .0),
       record { low = omega (arith, live .ensures); high = omega (arith, live .ensures) },
@@ -106,8 +101,7 @@ check-point-requires c κs =
     let start = offset .before .before .before .before .before .before .before .before .before .before .before .before in
     let args = start .args in
     let pre = start .pre in
-    let r = noted-read (now (args .sheet)) (args .script) (args .y) (scratch (args .y) (now (args .s))) (pre .2) (args .pc) (pre .3) _
-    (offset .get2 .ensures) _ (remove .before .before .instruction-at .ensures) in (
+    let r = noted-read (pre .2) (args .pc) (pre .3) (offset .get2 .ensures) (remove .before .before .instruction-at .ensures) in (
       subst (λ (n : ℕ). Room (args .y) n) (sym (insert .insert-inputs .kept .1 .0 ∙ remove .remove-output .kept .1 .0)) (pre .0),
       pre .1,
       λ q. pre .4 (r .await-is ∙ q),
@@ -136,9 +130,8 @@ returns-2 c =
     let m = scratch (args .y) (now (args .s)) in
     let s₁ = out .remove-output .last .1 .0 in
     let s₂ = put .insert-inputs .last .1 .0 in
-    let paid = noted-cost (now (args .sheet)) (args .script) (args .y) m (pre .2) (args .pc) (pre .3) _ (cost .get .ensures) in
-    let r = noted-read (now (args .sheet)) (args .script) (args .y) m (pre .2) (args .pc) (pre .3) _ (offset .get2 .ensures) _
-    (out .before .before .instruction-at .ensures) in
+    let paid = noted-cost (pre .2) (args .pc) (pre .3) (cost .get .ensures) in
+    let r = noted-read (pre .2) (args .pc) (pre .3) (offset .get2 .ensures) (out .before .before .instruction-at .ensures) in
     let room : Room (args .y) (length s₂) =
     subst (λ (n : ℕ). Room (args .y) n) (sym (put .insert-inputs .kept .1 .0 ∙ out .remove-output .kept .1 .0)) (pre .0) in
     let fits : (i : ℕ) → getD s₂ i 0 < 2 ^ 64 = λ i. omega (arith, known .slice-known4 .given i) in

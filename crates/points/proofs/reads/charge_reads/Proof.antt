@@ -2,8 +2,6 @@
 use mathlib.Core.Path.{refl}
 use Prim.Native.Nat.{_-_, _≤_, _<_}
 use native.Mathlib.Omega.{arith}
-use denote.Ref.{now}
-use Rattle.memory.specs.Scratch.{scratch}
 use Rattle.memory.proofs.ScratchLaws.{place-instructions}
 use Rattle.script.specs.Script.{flowCode}
 use Rattle.sheet.specs.Decode.{partsOf}
@@ -21,7 +19,7 @@ abbrev μ-loop : tie.MeasureT-loop
 μ-loop sheet s y start end limits left₀ awaits₀ pc₀ left awaits pc = end - pc
 
 loop-holds : tie.Need-loop-holds Inv-loop μ-loop
-loop-holds c = (omega arith, c .before .before .pre .2, charging-none _ _ _ _ _)
+loop-holds c = (omega arith, c .before .before .pre .2, charging-none)
 
 get-requires : tie.Need-get-requires Inv-loop μ-loop
 get-requires c κs =
@@ -48,10 +46,7 @@ returns c =
     let e = t .before .before .before .before in
     let a = e .args in
     let inside : loop .pc < a .y .instructions = omega (arith, t .loop-test .taken, e .pre .3) in
-    charges-over (flowCode (partsOf (now (a .sheet)))) (a .limits) (a .budget) (a .start) (a .end) (loop .left) (loop .pc) (loop .awaits) (loop .inv .2)
-    (t .loop-test .taken) _
-    (noted-cost (now (a .sheet)) (a .script) (a .y) (scratch (a .y) (now (a .s))) (e .pre .1) (loop .pc) inside _ (paid .before .get .ensures)) _
-    (paid .charge .ensures) _ _ (c .before .enum-told .given .1) (c .over .ensures)
+    charges-over (loop .inv .2) (t .loop-test .taken) (noted-cost (e .pre .1) (loop .pc) inside (paid .before .get .ensures)) (paid .charge .ensures) (c .before .enum-told .given .1) (c .over .ensures)
 
 get-requires-2 : tie.Need-get-requires-2 Inv-loop μ-loop
 get-requires-2 c κs =
@@ -63,9 +58,7 @@ instruction-at-requires : tie.Need-instruction-at-requires Inv-loop μ-loop
 instruction-at-requires c κs =
     let t = c .before .before .before .before .before .before in
     let e = t .before .before .before .before in
-    let a = e .args in
-    noted-stands (now (a .sheet)) (a .script) (a .y) (scratch (a .y) (now (a .s))) (e .pre .1) (t .before .loop .pc)
-    (omega (arith, t .loop-test .taken, e .pre .3)) _ (c .get2 .ensures)
+    noted-stands (e .pre .1) (t .before .loop .pc) (omega (arith, t .loop-test .taken, e .pre .3)) (c .get2 .ensures)
 
 await-count-requires : tie.Need-await-count-requires Inv-loop μ-loop
 await-count-requires c κs = search needs
@@ -93,24 +86,16 @@ loop-again c =
     let loop = t .before .loop in
     let e = t .before .before .before .before in
     let a = e .args in
-    let m = scratch (a .y) (now (a .s)) in
     let inside : loop .pc < a .y .instructions = omega (arith, t .loop-test .taken, e .pre .3) in (
       omega (arith, loop .inv .0),
       omega (arith, t .loop-test .taken),
-      charging-more (flowCode (partsOf (now (a .sheet)))) (a .limits) (a .budget) (a .start) (a .end) (loop .left) (loop .pc) (loop .awaits)
-          (loop .inv .2) (t .loop-test .taken) _
-          (noted-cost (now (a .sheet)) (a .script) (a .y) m (e .pre .1) (loop .pc) inside _ (paid .before .get .ensures)) _ (paid .charge .ensures) _
-          (met .paid .given .1) _ _
-          (noted-read (now (a .sheet)) (a .script) (a .y) m (e .pre .1) (loop .pc) inside _ (c .before .before .get2 .ensures) _
-          (c .before .instruction-at .ensures) .await-is) (c .await-count .ensures) (loop .inv .0),
+      charging-more (loop .inv .2) (t .loop-test .taken) (noted-cost (e .pre .1) (loop .pc) inside (paid .before .get .ensures)) (paid .charge .ensures) (met .paid .given .1) _ (noted-read (e .pre .1) (loop .pc) inside (c .before .before .get2 .ensures) (c .before .instruction-at .ensures) .await-is) (c .await-count .ensures) (loop .inv .0),
     )
 
 returns-2 : tie.Need-returns-2 Inv-loop μ-loop
 returns-2 c =
     let loop = c .before .loop in
-    let a = c .before .before .before .before .args in
-    charges-made (flowCode (partsOf (now (a .sheet)))) (a .limits) (a .budget) (a .start) (a .end) (loop .left) (loop .pc) (loop .awaits) (loop .inv .2)
-    (omega (arith, c .loop-test .left, loop .inv .1)) _ refl
+    charges-made (loop .inv .2) (omega (arith, c .loop-test .left, loop .inv .1)) refl
 
 pub charge-reads-spec : {M : Type 1} → statement M
 charge-reads-spec =

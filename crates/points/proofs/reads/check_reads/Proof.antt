@@ -10,7 +10,6 @@ use lib.ListN.{length, getD}
 use Rattle.bitset.specs.Sets.{member}
 use Rattle.dataflow.proofs.Bools.{not-no}
 use Rattle.memory.specs.Cells.{cell}
-use Rattle.memory.specs.Names.{stateRow}
 use Rattle.memory.specs.Scratch.{scratch, Room, Row}
 use Rattle.memory.proofs.ScratchLaws.{scratch-length, row-length, place-instructions}
 use Rattle.operands.specs.Instructions.{valuesOf}
@@ -19,7 +18,7 @@ use Rattle.script.specs.Script.{flowCode, parameterIn}
 use Rattle.sheet.specs.Decode.{partsOf}
 use Rattle.blocks.proofs.OperandLaws.{inputs-few}
 use Rattle.points.proofs.ReadLaws.{Reading, reading-none, reading-more, reads-filled, reads-over, reads-unfilled}
-use Rattle.points.proofs.ReadLaws.{coded-kept, noted-cost, noted-stands, noted-read, counted-once}
+use Rattle.points.proofs.ReadLaws.{reading-coded, noted-cost, noted-stands, noted-read, counted-once}
 use borrow.Author.Needs.{needs}
 use Rattle.points.proofs.reads.check_reads.Statement.{statement}
 use Rattle.points.proofs.reads.check_reads.Tie as tie
@@ -38,17 +37,14 @@ Inv-block sheet s₀ y start end limits state left₀ awaits₀ pc₀ s left awa
 abbrev μ-block : tie.MeasureT-block
 μ-block sheet s₀ y start end limits state left₀ awaits₀ pc₀ s left awaits pc = end - pc
 
--- src/reads.rt:42:9
 state-requires : tie.Need-state-requires Inv-loop μ-loop Inv-block μ-block
 state-requires c κs = search needs
 
--- src/reads.rt:46:5
 block-holds : tie.Need-block-holds Inv-loop μ-loop Inv-block μ-block
 block-holds c =
     let pre = c .before .before .before .pre in
-    (omega arith, pre .2, refl, reading-none _ _ _ _ _ _ _ _)
+    (omega arith, pre .2, refl, reading-none)
 
--- src/reads.rt:47:13
 get-requires : tie.Need-get-requires Inv-loop μ-loop Inv-block μ-block
 get-requires c κs =
     let args = c .before .before .before .before .before .before .args in
@@ -63,30 +59,23 @@ get-requires c κs =
       )),
     )
 
--- src/reads.rt:48:13
 charge-requires : tie.Need-charge-requires Inv-loop μ-loop Inv-block μ-block
 charge-requires c κs = search needs
 
--- src/reads.rt:49:25
 enum-known-c : tie.Need-enum-known-c Inv-loop μ-loop Inv-block μ-block
 enum-known-c c = search needs
 
--- src/reads.rt:50:13
 enum-told : tie.Need-enum-told Inv-loop μ-loop Inv-block μ-block
 enum-told c = search needs
 
--- src/reads.rt:50:13
 over-requires : tie.Need-over-requires Inv-loop μ-loop Inv-block μ-block
 over-requires c κs = search needs
 
--- src/reads.rt:50:13
 same-length : tie.Need-same-length Inv-loop μ-loop Inv-block μ-block
 same-length c = search needs
 
--- src/reads.rt:50:13
 returns : tie.Need-returns Inv-loop μ-loop Inv-block μ-block
 returns c =
-    let args = c .before .before .before .before .before .before .before .before .before .before .before .args in
     let pre = c .before .before .before .before .before .before .before .before .before .before .before .pre in
     let block = c .before .before .before .before .before .before .before .block in
     let test = c .before .before .before .before .before .before .block-test in
@@ -94,15 +83,10 @@ returns c =
     let charge = c .before .before .before .charge in
     let told = c .before .enum-told in
     let over = c .over in
-    let coded = coded-kept (now (args .sheet)) (args .script) (args .y) (scratch (args .y) (now (args .s))) (scratch (args .y) (block .s))
-    (stateRow (args .y .blocks)) (omega arith) (omega arith) (pre .1) (block .inv .3 .others) in
-    let paid = noted-cost (now (args .sheet)) (args .script) (args .y) (scratch (args .y) (block .s)) coded (block .pc)
-    (omega (arith, test .taken, pre .3)) _ (cost .ensures) in
-    reads-over (flowCode (partsOf (now (args .sheet)))) (parameterIn (partsOf (now (args .sheet)))) (args .y) (args .limits) (args .budget) (args
-    .start) (args .end) (scratch (args .y) (now (args .s))) (block .left) (block .pc) (block .awaits) (scratch (args .y) (block .s)) (block .inv .3)
-    (test .taken) _ paid _ (charge .ensures) _ _ (told .given .1) (over .ensures)
+    let coded = reading-coded (pre .1) (block .inv .3) in
+    let paid = noted-cost coded (block .pc) (omega (arith, test .taken, pre .3)) (cost .ensures) in
+    reads-over (block .inv .3) (test .taken) paid (charge .ensures) (told .given .1) (over .ensures)
 
--- src/reads.rt:53:18
 get-requires-2 : tie.Need-get-requires-2 Inv-loop μ-loop Inv-block μ-block
 get-requires-2 c κs =
     let args = c .before .before .before .before .before .before .before .before .before .before .before .before .args in
@@ -117,37 +101,27 @@ get-requires-2 c κs =
       )),
     )
 
--- src/reads.rt:54:13
 instruction-at-requires : tie.Need-instruction-at-requires Inv-loop μ-loop Inv-block μ-block
 instruction-at-requires c κs =
-    let args = c .before .before .before .before .before .before .before .before .before .before .before .before .before .args in
     let pre = c .before .before .before .before .before .before .before .before .before .before .before .before .before .pre in
     let block = c .before .before .before .before .before .before .before .before .before .block in
     let test = c .before .before .before .before .before .before .before .before .block-test in
     let offset = c .get2 in
-    let coded = coded-kept (now (args .sheet)) (args .script) (args .y) (scratch (args .y) (now (args .s))) (scratch (args .y) (block .s))
-    (stateRow (args .y .blocks)) (omega arith) (omega arith) (pre .1) (block .inv .3 .others) in
-    noted-stands (now (args .sheet)) (args .script) (args .y) (scratch (args .y) (block .s)) coded (block .pc) (omega (arith, test .taken, pre .3)) _
-    (offset .ensures)
+    let coded = reading-coded (pre .1) (block .inv .3) in
+    noted-stands coded (block .pc) (omega (arith, test .taken, pre .3)) (offset .ensures)
 
--- src/reads.rt:56:9
 loop-holds : tie.Need-loop-holds Inv-loop μ-loop Inv-block μ-block
 loop-holds c =
-    let args = c .before .before .before .before .before .before .before .before .before .before .before .before .before .before .args in
     let pre = c .before .before .before .before .before .before .before .before .before .before .before .before .before .before .pre in
     let block = c .before .before .before .before .before .before .before .before .before .before .block in
     let test = c .before .before .before .before .before .before .before .before .before .block-test in
     let cost = c .before .before .before .before .before .before .before .get in
-    let coded = coded-kept (now (args .sheet)) (args .script) (args .y) (scratch (args .y) (now (args .s))) (scratch (args .y) (block .s))
-    (stateRow (args .y .blocks)) (omega arith) (omega arith) (pre .1) (block .inv .3 .others) in
-    let paid = noted-cost (now (args .sheet)) (args .script) (args .y) (scratch (args .y) (block .s)) coded (block .pc)
-    (omega (arith, test .taken, pre .3)) _ (cost .ensures) in
+    let coded = reading-coded (pre .1) (block .inv .3) in
+    let paid = noted-cost coded (block .pc) (omega (arith, test .taken, pre .3)) (cost .ensures) in
     (omega (arith, paid), λ j h. absurd (omega arith))
 
--- src/reads.rt:56:15
 add-loop : tie.Need-add-loop Inv-loop μ-loop Inv-block μ-block
 add-loop c =
-    let args = c .before .before .before .before .before .before .before .before .before .before .before .before .before .before .before .args in
     let good = c .before .before .before .before .before .before .before .before .before .before .before .before .before .before .before .good in
     let pre = c .before .before .before .before .before .before .before .before .before .before .before .before .before .before .before .pre in
     let block = c .before .before .before .before .before .before .before .before .before .before .before .block in
@@ -156,15 +130,11 @@ add-loop c =
     let offset = c .before .before .get2 in
     let placed = c .before .instruction-at in
     let loop = c .loop in
-    let coded = coded-kept (now (args .sheet)) (args .script) (args .y) (scratch (args .y) (now (args .s))) (scratch (args .y) (block .s))
-    (stateRow (args .y .blocks)) (omega arith) (omega arith) (pre .1) (block .inv .3 .others) in
-    let paid = noted-cost (now (args .sheet)) (args .script) (args .y) (scratch (args .y) (block .s)) coded (block .pc)
-    (omega (arith, test .taken, pre .3)) _ (cost .ensures) in
-    let r = noted-read (now (args .sheet)) (args .script) (args .y) (scratch (args .y) (block .s)) coded (block .pc)
-    (omega (arith, test .taken, pre .3)) _ (offset .ensures) _ (placed .ensures) in
+    let coded = reading-coded (pre .1) (block .inv .3) in
+    let paid = noted-cost coded (block .pc) (omega (arith, test .taken, pre .3)) (cost .ensures) in
+    let r = noted-read coded (block .pc) (omega (arith, test .taken, pre .3)) (offset .ensures) (placed .ensures) in
     omega (arith, good .0, loop .inv .0, paid, ap length (r .inputs-are), inputs-few _ _ (r .readable), r .readable .within)
 
--- src/reads.rt:57:16
 misses-input-requires : tie.Need-misses-input-requires Inv-loop μ-loop Inv-block μ-block
 misses-input-requires c κs =
     let args = c .before .before .before .before .before .before .before .before .before .before .before .before .before .before .before .before
@@ -178,12 +148,9 @@ misses-input-requires c κs =
     let offset = c .before .before .before .before .get2 in
     let placed = c .before .before .before .instruction-at in
     let inner = c .before .loop-test in
-    let coded = coded-kept (now (args .sheet)) (args .script) (args .y) (scratch (args .y) (now (args .s))) (scratch (args .y) (block .s))
-    (stateRow (args .y .blocks)) (omega arith) (omega arith) (pre .1) (block .inv .3 .others) in
-    let paid = noted-cost (now (args .sheet)) (args .script) (args .y) (scratch (args .y) (block .s)) coded (block .pc)
-    (omega (arith, test .taken, pre .3)) _ (cost .ensures) in
-    let r = noted-read (now (args .sheet)) (args .script) (args .y) (scratch (args .y) (block .s)) coded (block .pc)
-    (omega (arith, test .taken, pre .3)) _ (offset .ensures) _ (placed .ensures) in (
+    let coded = reading-coded (pre .1) (block .inv .3) in
+    let paid = noted-cost coded (block .pc) (omega (arith, test .taken, pre .3)) (cost .ensures) in
+    let r = noted-read coded (block .pc) (omega (arith, test .taken, pre .3)) (offset .ensures) (placed .ensures) in (
       r .readable,
       subst (λ (n : ℕ). Room (args .y) n) (sym (block .inv .2)) (pre .0),
       record {
@@ -195,15 +162,12 @@ misses-input-requires c κs =
       omega (arith, inner .taken, paid, ap length (r .inputs-are)),
     )
 
--- src/reads.rt:60:13
 add-k : tie.Need-add-k Inv-loop μ-loop Inv-block μ-block
 add-k c = search needs
 
--- src/reads.rt:56:9
 loop-less : tie.Need-loop-less Inv-loop μ-loop Inv-block μ-block
 loop-less c = search needs
 
--- src/reads.rt:56:9
 loop-again : tie.Need-loop-again Inv-loop μ-loop Inv-block μ-block
 loop-again c =
     let args = c .before .before .before .before .before .before .before .before .before .before .before .before .before .before .before .before
@@ -222,7 +186,6 @@ loop-again c =
           (not-no _ (sym (misses .ensures) ∙ if1 .left)),
     )
 
--- src/reads.rt:62:9
 insert-output-requires : tie.Need-insert-output-requires Inv-loop μ-loop Inv-block μ-block
 insert-output-requires c κs =
     let args = c .before .before .before .before .before .before .before .before .before .before .before .before .before .before .before .before
@@ -234,10 +197,8 @@ insert-output-requires c κs =
     let test = c .before .before .before .before .before .before .before .before .before .before .before .before .block-test in
     let offset = c .before .before .before .before .get2 in
     let placed = c .before .before .before .instruction-at in
-    let coded = coded-kept (now (args .sheet)) (args .script) (args .y) (scratch (args .y) (now (args .s))) (scratch (args .y) (block .s))
-    (stateRow (args .y .blocks)) (omega arith) (omega arith) (pre .1) (block .inv .3 .others) in
-    let r = noted-read (now (args .sheet)) (args .script) (args .y) (scratch (args .y) (block .s)) coded (block .pc)
-    (omega (arith, test .taken, pre .3)) _ (offset .ensures) _ (placed .ensures) in (
+    let coded = reading-coded (pre .1) (block .inv .3) in
+    let r = noted-read coded (block .pc) (omega (arith, test .taken, pre .3)) (offset .ensures) (placed .ensures) in (
       r .readable,
       subst (λ (n : ℕ). Room (args .y) n) (sym (block .inv .2)) (pre .0),
       record {
@@ -248,11 +209,9 @@ insert-output-requires c κs =
       r .output-below,
     )
 
--- src/reads.rt:63:19
 await-count-requires : tie.Need-await-count-requires Inv-loop μ-loop Inv-block μ-block
 await-count-requires c κs = search needs
 
--- src/reads.rt:63:9
 add-awaits : tie.Need-add-awaits Inv-loop μ-loop Inv-block μ-block
 add-awaits c =
     let pre = c .before .before .before .before .before .before .before .before .before .before .before .before .before .before .before .before
@@ -264,7 +223,6 @@ add-awaits c =
     let count = c .await-count in
     omega (arith, block .inv .3 .few, counted-once _ _ (count .ensures), test .taken, pre .3, pre .0 .instructions)
 
--- src/reads.rt:64:9
 add-pc : tie.Need-add-pc Inv-loop μ-loop Inv-block μ-block
 add-pc c =
     let pre = c .before .before .before .before .before .before .before .before .before .before .before .before .before .before .before .before
@@ -273,11 +231,9 @@ add-pc c =
     .block-test in
     omega (arith, test .taken, pre .3, pre .0 .instructions)
 
--- src/reads.rt:46:5
 block-less : tie.Need-block-less Inv-loop μ-loop Inv-block μ-block
 block-less c = search needs
 
--- src/reads.rt:46:5
 block-again : tie.Need-block-again Inv-loop μ-loop Inv-block μ-block
 block-again c =
     let args = c .before .before .before .before .before .before .before .before .before .before .before .before .before .before .before .before
@@ -299,71 +255,42 @@ block-again c =
     let inner = c .before .before .before .before .before .loop-test in
     let insert = c .before .before .before .insert-output in
     let count = c .await-count in
-    let coded = coded-kept (now (args .sheet)) (args .script) (args .y) (scratch (args .y) (now (args .s))) (scratch (args .y) (block .s))
-    (stateRow (args .y .blocks)) (omega arith) (omega arith) (pre .1) (block .inv .3 .others) in
-    let paid = noted-cost (now (args .sheet)) (args .script) (args .y) (scratch (args .y) (block .s)) coded (block .pc)
-    (omega (arith, test .taken, pre .3)) _ (cost .ensures) in
-    let r = noted-read (now (args .sheet)) (args .script) (args .y) (scratch (args .y) (block .s)) coded (block .pc)
-    (omega (arith, test .taken, pre .3)) _ (offset .ensures) _ (placed .ensures) in
+    let coded = reading-coded (pre .1) (block .inv .3) in
+    let paid = noted-cost coded (block .pc) (omega (arith, test .taken, pre .3)) (cost .ensures) in
+    let r = noted-read coded (block .pc) (omega (arith, test .taken, pre .3)) (offset .ensures) (placed .ensures) in
     let room : Room (args .y) (length (block .s)) = subst (λ (n : ℕ). Room (args .y) n) (sym (block .inv .2)) (pre .0) in
     let row : Row (args .y) (state .result) = record { low = omega (arith, state .ensures); high = omega (arith, state .ensures) } in (
       omega (arith, block .inv .0),
       omega (arith, test .taken),
       insert .kept .1 .0 ∙ block .inv .2,
-      reading-more (flowCode (partsOf (now (args .sheet)))) (parameterIn (partsOf (now (args .sheet)))) (args .y) (args .limits) (args .budget)
-          (args .start) (args .end) (scratch (args .y) (now (args .s))) (block .left) (block .pc) (block .awaits) (scratch (args .y) (block .s))
-          (block
-          .inv .3) (test .taken) _ paid _ (charge .ensures) _ (bound .given .1) _ (r .inputs-are) (r .inputs-below) _ _ _ _ _ (state .ensures) (omega
-          (arith, scratch-length (args .y) (block .s), state .ensures)) (row-length (block .s) room row) (λ j h. loop .inv .1 j (omega (
-            arith,
-            h,
-            inner
-                .left,
-            paid,
-            ap length (r .inputs-are),
-          ))) (r .outputs-are) (r .emptied-none) (r .output-below) (insert .ensures) (r .await-is) (count
-          .ensures) (block .inv .0),
+      reading-more (block .inv .3) (test .taken) paid (charge .ensures) (bound .given .1) (r .inputs-are) (r .inputs-below) _ (state .ensures) (omega (arith, scratch-length (args .y) (block .s), state .ensures)) (row-length (block .s) room row) (λ j h. loop .inv .1 j (omega (arith, h, inner .left, paid, ap length (r .inputs-are)))) (r .outputs-are) (r .emptied-none) (r .output-below) (insert .ensures) (r .await-is) (count .ensures) (block .inv .0),
     )
 
--- src/reads.rt:67:9
 same-length-2 : tie.Need-same-length-2 Inv-loop μ-loop Inv-block μ-block
 same-length-2 c = search needs
 
--- src/reads.rt:67:9
 returns-2 : tie.Need-returns-2 Inv-loop μ-loop Inv-block μ-block
 returns-2 c =
-    let args = c .before .before .before .before .before .before .args in
     let pre = c .before .before .before .before .before .before .pre in
     let state = c .before .before .before .state in
     let block = c .before .before .block in
     let test = c .before .block-test in
     let if2 = c .if2 in
-    let coded = coded-kept (now (args .sheet)) (args .script) (args .y) (scratch (args .y) (now (args .s))) (scratch (args .y) (block .s))
-    (stateRow (args .y .blocks)) (omega arith) (omega arith) (pre .1) (block .inv .3 .others) in
+    let coded = reading-coded (pre .1) (block .inv .3) in
     ⊎-elim (λ w. absurd (omega (arith, w .0 .left, if2 .taken)))
-    (λ w. let r = noted-read (now (args .sheet)) (args .script) (args .y) (scratch (args .y) (block .s)) coded (block .pc)
-    (omega (arith, w .0 .taken, pre .3)) _ (w .8 .ensures) _ (w .9 .ensures) in
-    let paid = noted-cost (now (args .sheet)) (args .script) (args .y) (scratch (args .y) (block .s)) coded (block .pc)
-    (omega (arith, w .0 .taken, pre .3)) _ (w .2 .ensures) in
-    reads-unfilled (flowCode (partsOf (now (args .sheet)))) (parameterIn (partsOf (now (args .sheet)))) (args .y) (args .limits) (args .budget)
-    (args .start) (args .end) (scratch (args .y) (now (args .s))) (block .left) (block .pc) (block .awaits) (scratch (args .y) (block .s))
-    (block .inv .3) (w .0 .taken) _ paid _ (w .3 .ensures) _ (w .5 .given .1) _ (r .inputs-are) (r .inputs-below) _ (w .10 .k)
-    (state .ensures) (omega (arith, w .11 .taken, paid, ap length (r .inputs-are))) _ (w .13 .ensures) (w .14 .taken) _ (w .15)) (test .came)
+    (λ w. let r = noted-read coded (block .pc) (omega (arith, w .0 .taken, pre .3)) (w .8 .ensures) (w .9 .ensures) in
+    let paid = noted-cost coded (block .pc) (omega (arith, w .0 .taken, pre .3)) (w .2 .ensures) in
+    reads-unfilled (block .inv .3) (w .0 .taken) paid (w .3 .ensures) (w .5 .given .1) (r .inputs-are) (r .inputs-below) (w .10 .k) (state .ensures) (omega (arith, w .11 .taken, paid, ap length (r .inputs-are))) (w .13 .ensures) (w .14 .taken) (w .15)) (test .came)
 
--- src/reads.rt:29:1
 same-length-3 : tie.Need-same-length-3 Inv-loop μ-loop Inv-block μ-block
 same-length-3 c = search needs
 
--- src/reads.rt:29:1
 returns-3 : tie.Need-returns-3 Inv-loop μ-loop Inv-block μ-block
 returns-3 c =
-    let args = c .before .before .before .before .before .before .args in
     let block = c .before .before .block in
     let test = c .before .block-test in
     let if2 = c .if2 in
-    ⊎-elim (λ w. reads-filled (flowCode (partsOf (now (args .sheet)))) (parameterIn (partsOf (now (args .sheet)))) (args .y) (args .limits) (args
-    .budget) (args .start) (args .end) (scratch (args .y) (now (args .s))) (block .left) (block .pc) (block .awaits) (scratch (args .y) (block .s))
-    (block .inv .3) (omega (arith, w .0 .left, block .inv .1)) _ (w .1)) (λ w. absurd (omega (arith, w .0 .taken, if2 .left))) (test .came)
+    ⊎-elim (λ w. reads-filled (block .inv .3) (omega (arith, w .0 .left, block .inv .1)) (w .1)) (λ w. absurd (omega (arith, w .0 .taken, if2 .left))) (test .came)
 
 pub check-reads-spec : {M : Type 1} → statement M
 check-reads-spec =
