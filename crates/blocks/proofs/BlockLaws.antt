@@ -15,6 +15,7 @@ use Rattle.dataflow.specs.Lists.{pick}
 use Rattle.dataflow.specs.Blocks.{uses, defines}
 use Rattle.dataflow.specs.Code.{Instruction, successors, program, lastOr, indexOf, leaders, body, blockSuccessors}
 use Rattle.dataflow.specs.Results.{blockCount}
+use Rattle.dataflow.specs.Charges.{costAt}
 use Rattle.dataflow.proofs.Leaders.{leaders-count}
 use Rattle.dataflow.proofs.Lists.{map-at, mem-getD}
 use Rattle.memory.specs.Cells.{Mem, cell, word, store, storeCell}
@@ -41,7 +42,7 @@ use Rattle.script.specs.Script.{flowCode, parameterIn}
 use Rattle.script.proofs.ScriptLaws.{code-length, checked}
 use Rattle.leaders.proofs.LeaderLaws.{targets-at}
 use Rattle.blocks.specs.Words.{endOf, spanned, nextOf, putEdges}
-use Rattle.blocks.specs.Rows.{Transfer, transferAll, costOf, rowsAt, Transferred}
+use Rattle.blocks.specs.Rows.{Transfer, transferAll, rowsAt, Transferred}
 use Rattle.blocks.specs.Blocks.{Ready, Block, BuiltOne}
 use Rattle.blocks.proofs.ReadLaws.{Read, inputs-everywhere, outputs-everywhere, targets-everywhere}
 use Rattle.blocks.proofs.TransferLaws.{offset-is, noted-stands, noted-read}
@@ -323,7 +324,7 @@ module _ {s : List ℕ} {x : Script} {y : Layout} {m : Mem} (ok : Ready s x y m)
 
         pub built-one : BuiltOne (flowCode (partsOf s)) l budget b m m₄ r
         built-one = record {
-          charges = t .charges ∙ ap (λ (ns : List ℕ). charged l budget (map (costOf code) ns)) (sym (spans .is));
+          charges = t .charges ∙ ap (λ (ns : List ℕ). charged l budget (map (costAt code) ns)) (sym (spans .is));
           block = this-block;
           earlier = earlier-block;
           others = λ k a c d e f g h. cell₄ k a g h e f ∙ em .others k c d g h;

@@ -12,6 +12,7 @@ use Rattle.dataflow.specs.Lists.{range}
 use Rattle.dataflow.specs.Blocks.{pointsOf}
 use Rattle.dataflow.specs.Code.{Instruction, body, blockGraph}
 use Rattle.dataflow.specs.Results.{blockCount}
+use Rattle.dataflow.specs.Charges.{costAt}
 use Rattle.memory.specs.Cells.{Mem, cell, storeCell}
 use Rattle.memory.specs.Names.{offsetCell, blockOfCell, leaderCell, usesRow, definesRow, initializedRow, liveRow}
 use Rattle.memory.specs.declared.layout.Layout.{Layout}
@@ -23,7 +24,6 @@ use Rattle.budget.specs.declared.Charged.the-variants.{Ok, Over}
 use Rattle.budget.specs.Budget.{charged}
 use Rattle.budget.proofs.BudgetLaws.{charged-none, met-then, over-then}
 use Rattle.sheet.specs.declared.script.Script.{Script}
-use Rattle.blocks.specs.Rows.{costOf}
 use Rattle.blocks.specs.Blocks.{Ready, Block, Fresh, Untouched, BuiltOne, Built}
 use Rattle.blocks.proofs.TransferLaws.{range-more, range-at}
 use Rattle.blocks.proofs.BlockLaws.{ready-kept}
@@ -39,26 +39,26 @@ module _ (code : List Instruction) where
 
   -- the charges of these blocks
   abbrev pub chargesOf : List ℕ → List ℕ
-  chargesOf l = map (costOf code) (pointsOf (blockGraph code) l)
+  chargesOf l = map (costAt code) (pointsOf (blockGraph code) l)
 
-  charges-append : (a : List ℕ) (c : ℕ) (b : List ℕ) → chargesOf (a ++ (c ∷ b)) ≡ chargesOf a ++ (map (costOf code) (body code c) ++ chargesOf b)
+  charges-append : (a : List ℕ) (c : ℕ) (b : List ℕ) → chargesOf (a ++ (c ∷ b)) ≡ chargesOf a ++ (map (costAt code) (body code c) ++ chargesOf b)
   charges-append a c b =
-      ap (map (costOf code)) (points-append a (c ∷ b))
-      ∙ map-append (costOf code) (pointsOf (blockGraph code) a) (body code c ++ pointsOf (blockGraph code) b)
-      ∙ ap (λ (l : List ℕ). chargesOf a ++ l) (map-append (costOf code) (body code c) (pointsOf (blockGraph code) b))
+      ap (map (costAt code)) (points-append a (c ∷ b))
+      ∙ map-append (costAt code) (pointsOf (blockGraph code) a) (body code c ++ pointsOf (blockGraph code) b)
+      ∙ ap (λ (l : List ℕ). chargesOf a ++ l) (map-append (costAt code) (body code c) (pointsOf (blockGraph code) b))
 
   -- one block more
-  pub charges-more : (c : ℕ) → chargesOf (range 0 (c + 1)) ≡ chargesOf (range 0 c) ++ map (costOf code) (body code c)
+  pub charges-more : (c : ℕ) → chargesOf (range 0 (c + 1)) ≡ chargesOf (range 0 c) ++ map (costAt code) (body code c)
   charges-more c =
       let e : c + 1 ≡ c + 1 - 0 = omega arith in
       let f : c - 0 ≡ c = omega arith in
       ap (λ (n : ℕ). chargesOf (range 0 n)) e ∙ ap chargesOf (range-more 0 c (omega arith))
       ∙ ap (λ (n : ℕ). chargesOf (range 0 n ++ (c ∷ []))) f ∙ charges-append (range 0 c) c []
-      ∙ ap (λ (l : List ℕ). chargesOf (range 0 c) ++ l) (append-nil (map (costOf code) (body code c)))
+      ∙ ap (λ (l : List ℕ). chargesOf (range 0 c) ++ l) (append-nil (map (costAt code) (body code c)))
 
   -- all blocks, of which c is one
   pub charges-at : (c n : ℕ) → c < n
-      → chargesOf (range 0 n) ≡ chargesOf (range 0 c) ++ (map (costOf code) (body code c) ++ chargesOf (range (suc c) (n - suc c)))
+      → chargesOf (range 0 n) ≡ chargesOf (range 0 c) ++ (map (costAt code) (body code c) ++ chargesOf (range (suc c) (n - suc c)))
   charges-at c n h =
       let e : n ≡ n - 0 = omega arith in
       let f : c - 0 ≡ c = omega arith in
@@ -145,7 +145,7 @@ module _ {code : List Instruction} {y : Layout} {l : Limits} {budget left : Flow
     pub built-over : {t t″ : Mem} {x : FlowBudget} → y .blocks ≡ blockCount code → r ≡ Over x → Built code y l budget m m″ t t″ r
     built-over e f = record {
       charges = f ∙ sym (ap (charged l budget) (charges-at code index (blockCount code) (omega arith))
-          ∙ met-then l budget _ _ (g .charges) ∙ over-then l left (map (costOf code) (body code index)) _ (sym (o .charges) ∙ f));
+          ∙ met-then l budget _ _ (g .charges) ∙ over-then l left (map (costAt code) (body code index)) _ (sym (o .charges) ∙ f));
       blocks = λ z q. let w : _≡_ {A = ℕ} 0 1 = cc in absurd (omega arith);
       fresh = λ z q. let w : _≡_ {A = ℕ} 0 1 = cc in absurd (omega arith);
       others = others-more;

@@ -22,20 +22,14 @@ link-other e [] m k h = refl
 link-other e (t ∷ ts) m k h =
     link-other (suc e) ts (store m successorCell e (word m blockOfCell t)) k h ∙ cell-store-other m successorCell _ k h
 
--- edges before them and behind them stay
-link-before : (e : ℕ) (ts : List ℕ) (m : Mem) (j : ℕ) → j < e → word (linkEdges e ts m) successorCell j ≡ word m successorCell j
+-- each other edge stays
+link-apart : (e : ℕ) (ts : List ℕ) (m : Mem) (j : ℕ) → ((i : ℕ) → e ≤ i → i < e + length ts → j ≢ i)
+    → word (linkEdges e ts m) successorCell j ≡ word m successorCell j
 unfolding linkEdges
-link-before e [] m j h = refl
-link-before e (t ∷ ts) m j h =
-    link-before (suc e) ts (store m successorCell e (word m blockOfCell t)) j (omega arith)
-    ∙ word-store-other m successorCell e (word m blockOfCell t) successorCell j (λ _ q. omega arith)
-
-link-behind : (e : ℕ) (ts : List ℕ) (m : Mem) (j : ℕ) → e + length ts ≤ j → word (linkEdges e ts m) successorCell j ≡ word m successorCell j
-unfolding linkEdges
-link-behind e [] m j h = refl
-link-behind e (t ∷ ts) m j h =
-    link-behind (suc e) ts (store m successorCell e (word m blockOfCell t)) j (omega arith)
-    ∙ word-store-other m successorCell e (word m blockOfCell t) successorCell j (λ _ q. omega arith)
+link-apart e [] m j h = refl
+link-apart e (t ∷ ts) m j h =
+    link-apart (suc e) ts (store m successorCell e (word m blockOfCell t)) j (λ i a b. h i (omega arith) (omega arith))
+    ∙ word-store-other m successorCell e (word m blockOfCell t) successorCell j (λ _. h e (omega arith) (omega arith))
 
 module _ (y : Layout) where
   link-sized : (e : ℕ) (ts : List ℕ) (m : Mem) → Sized (scratchWidths y) m → Sized (scratchWidths y) (linkEdges e ts m)
@@ -51,7 +45,7 @@ module _ (y : Layout) where
   link-at e [] m k z h l = absurd (omega arith)
   link-at e (t ∷ ts) m zero z h l =
       let q : e + 0 ≡ e = omega arith in
-      rw q (link-before (suc e) ts (store m successorCell e (word m blockOfCell t)) e (omega arith)
+      rw q (link-apart (suc e) ts (store m successorCell e (word m blockOfCell t)) e (λ i a b w. omega arith)
       ∙ word-put y z (place-edges y 16 e (omega arith) (omega arith) (omega arith)) (word m blockOfCell t))
   link-at e (t ∷ ts) m (suc k) z h l =
       let q : e + suc k ≡ suc e + k = omega arith in
@@ -148,8 +142,8 @@ module _ (y : Layout) (b : ℕ) (ts : List ℕ) (m : Mem) (z : Sized (scratchWid
   pub edges-unused : (k : ℕ) → k < 2 → length ts ≤ k → word (putEdges b ts m) successorCell (2 * b + k) ≡ 0
   unfolding putEdges
   edges-unused k l g =
-      link-behind (2 * b) ts (countedEdges b (length ts) m) (2 * b + k) (omega arith) ∙ cleared-edge y b (length ts) m z h k l
+      link-apart (2 * b) ts (countedEdges b (length ts) m) (2 * b + k) (λ i a b w. omega arith) ∙ cleared-edge y b (length ts) m z h k l
 
   pub edges-before : (j : ℕ) → j < 2 * b → word (putEdges b ts m) successorCell j ≡ word m successorCell j
   unfolding putEdges
-  edges-before j l = link-before (2 * b) ts (countedEdges b (length ts) m) j l ∙ other-edge y b (length ts) m z h j l
+  edges-before j l = link-apart (2 * b) ts (countedEdges b (length ts) m) j (λ i a b w. omega arith) ∙ other-edge y b (length ts) m z h j l

@@ -9,6 +9,7 @@ use lib.ListN.{length, length-set}
 use Rattle.dataflow.specs.Lists.{range}
 use Rattle.dataflow.proofs.Lists.{range-append, range-snoc}
 use Rattle.dataflow.specs.Code.{Instruction, instructionAt}
+use Rattle.dataflow.specs.Charges.{costAt}
 use Rattle.memory.specs.Cells.{Mem, cell, word, store, storeCell}
 use Rattle.memory.specs.Names.{offsetCell, costCell, usesRow, definesRow}
 use Rattle.memory.specs.Scratch.{scratchWidths, scratchCells}
@@ -26,7 +27,7 @@ use Rattle.instructions.specs.declared.placed.Placed.{Placed}
 use Rattle.instructions.specs.Placed.{Stands, placedAt}
 use Rattle.instructions.specs.Sets.{insertedAll}
 use Rattle.instructions.specs.Sound.{codeOffset}
-use Rattle.blocks.specs.Rows.{usedIn, Transfer, transferOne, transferAll, costOf, rowsAt, Transferred}
+use Rattle.blocks.specs.Rows.{usedIn, Transfer, transferOne, transferAll, rowsAt, Transferred}
 use Rattle.blocks.specs.Blocks.{Ready}
 use Rattle.blocks.proofs.ReadLaws.{Read, stands-at, read-at}
 
@@ -58,9 +59,9 @@ transfer-append code (i ∷ a) b r = transfer-append code a b (transferOne (inst
 -- ---- after the instructions from start to pc
 
 pub record Transferring (code : List Instruction) (l : Limits) (budget left : FlowBudget) (b start pc : ℕ) (m m′ : Mem) : Type 0 where
-  pub charges : charged l budget (map (costOf code) (range start (pc - start))) ≡ Ok left
+  pub charges : charged l budget (map (costAt code) (range start (pc - start))) ≡ Ok left
   pub rows : rowsAt m′ b ≡ transferAll code (range start (pc - start)) (rowsAt m b)
-  pub costs : (i : ℕ) → start ≤ i → i < pc → word m′ costCell i ≡ costOf code i
+  pub costs : (i : ℕ) → start ≤ i → i < pc → word m′ costCell i ≡ costAt code i
   pub other-costs : (i : ℕ) → i < start → word m′ costCell i ≡ word m costCell i
   pub others : (k : ℕ) → (k ≡ costCell → ⊥) → (k ≡ usesRow b → ⊥) → (k ≡ definesRow b → ⊥) → cell m′ k ≡ cell m k
 
@@ -83,7 +84,7 @@ module _ {code : List Instruction} {l : Limits} {budget : FlowBudget} {b start :
   pub transferred-all : {left : FlowBudget} {pc end : ℕ} {m′ : Mem} → pc ≡ end → Transferring code l budget left b start pc m m′
       → Transferred code l budget b start end m m′ (Ok left)
   transferred-all q g = record {
-    charges = sym (g .charges) ∙ ap (λ (n : ℕ). charged l budget (map (costOf code) (range start (n - start)))) q;
+    charges = sym (g .charges) ∙ ap (λ (n : ℕ). charged l budget (map (costAt code) (range start (n - start)))) q;
     rows = λ x e. g .rows ∙ ap (λ (n : ℕ). transferAll code (range start (n - start)) (rowsAt m b)) q;
     costs = λ x e i a c. g .costs i a (omega arith);
     other-costs = g .other-costs;
@@ -93,16 +94,16 @@ module _ {code : List Instruction} {l : Limits} {budget : FlowBudget} {b start :
   module _ {left : FlowBudget} {pc n : ℕ} {m′ m₁ : Mem} (a : start ≤ pc) (g : Transferring code l budget left b start pc m m′)
       (e : n ≡ length (instructionAt code pc .inputs)) (e₁ : m₁ ≡ store m′ costCell pc (n + 1)) {r : Charged}
       (c : r ≡ charged l left ((n + 1) ∷ [])) where
-    cost-is : n + 1 ≡ costOf code pc
+    cost-is : n + 1 ≡ costAt code pc
     cost-is = ap (λ (k : ℕ). k + 1) e
 
     -- a charge crosses the limit
     pub transferred-over : {end : ℕ} {x : FlowBudget} → pc < end → r ≡ Over x → Transferred code l budget b start end m m₁ r
     transferred-over {end} h f = record {
-      charges = f ∙ sym (ap (λ (ns : List ℕ). charged l budget (map (costOf code) ns)) (range-at start pc end a h)
-          ∙ ap (charged l budget) (map-append (costOf code) (range start (pc - start)) (pc ∷ range (suc pc) (end - suc pc)))
+      charges = f ∙ sym (ap (λ (ns : List ℕ). charged l budget (map (costAt code) ns)) (range-at start pc end a h)
+          ∙ ap (charged l budget) (map-append (costAt code) (range start (pc - start)) (pc ∷ range (suc pc) (end - suc pc)))
           ∙ met-then l budget _ _ (g .charges)
-          ∙ over-then l left (costOf code pc ∷ []) _ (ap (λ (k : ℕ). charged l left (k ∷ [])) (sym cost-is) ∙ sym c ∙ f));
+          ∙ over-then l left (costAt code pc ∷ []) _ (ap (λ (k : ℕ). charged l left (k ∷ [])) (sym cost-is) ∙ sym c ∙ f));
       rows = λ y q. let o : _≡_ {A = ℕ} 0 1 = cc in absurd (omega arith);
       costs = λ y q i. let o : _≡_ {A = ℕ} 0 1 = cc in absurd (omega arith);
       other-costs = λ i h. ap (λ (w : Mem). word w costCell i) e₁ ∙ word-store-other m′ costCell pc (n + 1) costCell i (λ _ q. omega arith)
@@ -149,7 +150,7 @@ module _ {code : List Instruction} {l : Limits} {budget : FlowBudget} {b start :
       cost₃ i =
           same-word i (cell₃ costCell (λ w. omega arith) ∙ cell₂ costCell (λ w. omega arith))
 
-      cost-at : (i : ℕ) → start ≤ i → i < pc + 1 → Dec (i ≡ pc) → word m₁ costCell i ≡ costOf code i
+      cost-at : (i : ℕ) → start ≤ i → i < pc + 1 → Dec (i ≡ pc) → word m₁ costCell i ≡ costAt code i
       cost-at i lo hi (yes w) =
           ap (λ (v : Mem). word v costCell i) e₁ ∙ rw w (word-put y z (place-instructions y 3 pc (omega arith) h) (n + 1) ∙ cost-is)
       cost-at i lo hi (no w) =
@@ -158,9 +159,9 @@ module _ {code : List Instruction} {l : Limits} {budget : FlowBudget} {b start :
       pub transferring-more : Transferring code l budget left′ b start (pc + 1) m m₃
       unfolding transferAll
       transferring-more = record {
-        charges = ap (λ (ns : List ℕ). charged l budget (map (costOf code) ns)) (range-more start pc a)
-            ∙ ap (charged l budget) (map-append (costOf code) (range start (pc - start)) (pc ∷ []))
-            ∙ met-then l budget _ (costOf code pc ∷ []) (g .charges)
+        charges = ap (λ (ns : List ℕ). charged l budget (map (costAt code) ns)) (range-more start pc a)
+            ∙ ap (charged l budget) (map-append (costAt code) (range start (pc - start)) (pc ∷ []))
+            ∙ met-then l budget _ (costAt code pc ∷ []) (g .charges)
             ∙ ap (λ (k : ℕ). charged l left (k ∷ [])) (sym cost-is) ∙ sym c ∙ f;
         rows = rows-more ∙ ap (transferOne (instructionAt code pc)) (g .rows)
             ∙ sym (ap (λ (ns : List ℕ). transferAll code ns (rowsAt m b)) (range-more start pc a)

@@ -8,7 +8,7 @@ use lib.ListN.{length, getD, replicate}
 use Rattle.bitset.specs.Sets.{member, ones}
 use Rattle.dataflow.specs.Blocks.{uses, defines}
 use Rattle.dataflow.specs.Code.{Instruction, program, leaders, body, blockSuccessors}
-use Rattle.dataflow.specs.Charges.{operandCharges}
+use Rattle.dataflow.specs.Charges.{costAt, operandCharges}
 use Rattle.memory.specs.Cells.{Mem, cell, word}
 use Rattle.memory.specs.Names.{costCell, startCell, endCell, successorCell, successorCountCell, usesRow, definesRow, initializedRow, liveRow}
 use Rattle.memory.specs.declared.layout.Layout.{Layout}
@@ -20,8 +20,6 @@ use Rattle.budget.specs.Budget.{charged}
 use Rattle.sheet.specs.declared.script.Script.{Script}
 use Rattle.instructions.specs.Sound.{Sound}
 use Rattle.leaders.specs.Index.{Indexed, Fits}
-use Rattle.edges.specs.Edges.{Holds}
-use Rattle.blocks.specs.Rows.{costOf}
 
 -- a sheet that passed, a layout of its sizes, and the index of its blocks
 pub record Ready (s : List ℕ) (x : Script) (y : Layout) (m : Mem) : Type 0 where
@@ -38,7 +36,7 @@ pub record Block (code : List Instruction) (parameter : ℕ → Bool) (m : Mem) 
   pub unused : (k : ℕ) → k < 2 → length (blockSuccessors code b) ≤ k → word m successorCell (2 * b + k) ≡ 0
   pub uses-are : (i : ℕ) → member (cell m (usesRow b)) i ≡ uses (program code parameter) i false false (body code b)
   pub defines-are : (i : ℕ) → member (cell m (definesRow b)) i ≡ defines (program code parameter) i false (body code b)
-  pub costs : (i : ℕ) → word m startCell b ≤ i → i < word m endCell b → word m costCell i ≡ costOf code i
+  pub costs : (i : ℕ) → word m startCell b ≤ i → i < word m endCell b → word m costCell i ≡ costAt code i
 
 -- the sets of block b are as flow.rs begins them: initialized all ones, live zero
 pub record Fresh (y : Layout) (t : Mem) (b : ℕ) : Type 0 where
@@ -53,7 +51,7 @@ Untouched y k =
 
 -- what `block` does for block c: a charge for each of its instructions, and if they are met, its words and rows; those of other blocks stay
 pub record BuiltOne (code : List Instruction) (l : Limits) (b : FlowBudget) (c : ℕ) (m m′ : Mem) (r : Charged) : Type 0 where
-  pub charges : r ≡ charged l b (map (costOf code) (body code c))
+  pub charges : r ≡ charged l b (map (costAt code) (body code c))
   pub block : (left : FlowBudget) → r ≡ Ok left → (parameter : ℕ → Bool) → Block code parameter m′ c
   pub earlier : (parameter : ℕ → Bool) (d : ℕ) → d < c → Block code parameter m d → Block code parameter m′ d
   pub others : (k : ℕ) → (k ≡ costCell → ⊥) → (k ≡ startCell → ⊥) → (k ≡ endCell → ⊥) → (k ≡ successorCountCell → ⊥) → (k ≡ successorCell → ⊥)

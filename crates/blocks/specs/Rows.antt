@@ -1,11 +1,11 @@
 -- What a block uses and what it defines, as rows of words: flow.rs `graph`, the second loop.
 use mathlib.Core.Path.{_≡_}
 use mathlib.Core.List.{List, [], _∷_, map}
-use Prim.Native.Nat.{ℕ, _+_, _-_, _≤_, _<_}
-use lib.ListN.{length}
+use Prim.Native.Nat.{ℕ, _-_, _≤_, _<_}
 use Rattle.bitset.specs.Sets.{member, inserted}
 use Rattle.dataflow.specs.Lists.{pick, range}
 use Rattle.dataflow.specs.Code.{Instruction, instructionAt}
+use Rattle.dataflow.specs.Charges.{costAt}
 use Rattle.memory.specs.Cells.{Mem, cell, word}
 use Rattle.memory.specs.Names.{costCell, usesRow, definesRow}
 use Rattle.budget.specs.declared.FlowBudget.{FlowBudget}
@@ -32,10 +32,6 @@ unfoldable pub transferAll : List Instruction → List ℕ → Transfer → Tran
 transferAll code [] r = r
 transferAll code (i ∷ l) r = transferAll code l (transferOne (instructionAt code i) r)
 
--- what an instruction's reads are charged: inputs + 1
-abbrev pub costOf : List Instruction → ℕ → ℕ
-costOf code i = length (instructionAt code i .inputs) + 1
-
 -- a block's two rows
 abbrev pub rowsAt : Mem → ℕ → Transfer
 rowsAt m b = record { uses = cell m (usesRow b); defines = cell m (definesRow b) }
@@ -43,8 +39,8 @@ rowsAt m b = record { uses = cell m (usesRow b); defines = cell m (definesRow b)
 -- what `transfer` does with block b's instructions, those from `start` to `end`: a charge for each, and if they are met, the two rows, and the
 -- charges noted; three cells change
 pub record Transferred (code : List Instruction) (l : Limits) (budget : FlowBudget) (b start end : ℕ) (m m′ : Mem) (r : Charged) : Type 0 where
-  pub charges : r ≡ charged l budget (map (costOf code) (range start (end - start)))
+  pub charges : r ≡ charged l budget (map (costAt code) (range start (end - start)))
   pub rows : (left : FlowBudget) → r ≡ Ok left → rowsAt m′ b ≡ transferAll code (range start (end - start)) (rowsAt m b)
-  pub costs : (left : FlowBudget) → r ≡ Ok left → (i : ℕ) → start ≤ i → i < end → word m′ costCell i ≡ costOf code i
+  pub costs : (left : FlowBudget) → r ≡ Ok left → (i : ℕ) → start ≤ i → i < end → word m′ costCell i ≡ costAt code i
   pub other-costs : (i : ℕ) → i < start → word m′ costCell i ≡ word m costCell i
   pub others : (k : ℕ) → (k ≡ costCell → ⊥) → (k ≡ usesRow b → ⊥) → (k ≡ definesRow b → ⊥) → cell m′ k ≡ cell m k

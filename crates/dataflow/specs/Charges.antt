@@ -51,9 +51,13 @@ module _ (code : List Instruction) where
   abbrev pub leaderCharges : List ℕ
   leaderCharges = replicate (length code) 1
 
-  -- `graph`, the second loop: the blocks by start, one more than its inputs for each instruction
+  -- what an instruction's reads are charged: one more than its inputs
+  abbrev pub costAt : ℕ → ℕ
+  costAt i = length (instructionAt code i .inputs) + 1
+
+  -- `graph`, the second loop: the blocks by start, each instruction's reads
   abbrev pub operandCharges : List ℕ
-  operandCharges = map (λ i. length (instructionAt code i .inputs) + 1) (pointsOf (blockGraph code) (range 0 (blockCount code)))
+  operandCharges = map costAt (pointsOf (blockGraph code) (range 0 (blockCount code)))
 
   -- `reachability`: one for each edge of each block taken
   abbrev pub reachabilityCharges : List ℕ

@@ -7,6 +7,7 @@ use native.Mathlib.Omega.{arith}
 use lib.ListN.{length, getD}
 use Rattle.dataflow.specs.Code.{Instruction, leaders, body}
 use Rattle.dataflow.specs.Results.{blockCount}
+use Rattle.dataflow.specs.Charges.{costAt}
 use Rattle.dataflow.proofs.Leaders.{block-range, block-place}
 use Rattle.memory.specs.Cells.{Mem, word}
 use Rattle.memory.specs.Names.{costCell, startCell, endCell, successorCountCell}
@@ -15,7 +16,6 @@ use Rattle.memory.specs.declared.layout.Layout.{Layout}
 use Rattle.edges.proofs.FlowLaws.{Still}
 use Rattle.blocks.specs.Blocks.{Block}
 use Rattle.graph.proofs.HoldingLaws.{block-kept}
-use Rattle.verdict.specs.Points.{costAt}
 use Rattle.dataflow.proofs.Lists.{range-bounds}
 
 -- ---- what stays

@@ -10,6 +10,7 @@ use Rattle.dataflow.specs.Lists.{pick, range, keep}
 use Rattle.dataflow.specs.Analyses.{liveAlong}
 use Rattle.dataflow.specs.Code.{Instruction, program}
 use Rattle.dataflow.specs.Verdict.{awaitAt}
+use Rattle.dataflow.specs.Charges.{costAt}
 use Rattle.budget.specs.declared.FlowBudget.{FlowBudget}
 use Rattle.budget.specs.declared.Limits.{Limits}
 use Rattle.budget.specs.declared.Charged.{Charged}
@@ -21,7 +22,7 @@ use Rattle.memory.specs.Cells.{Mem, word}
 use Rattle.memory.specs.Names.{costCell}
 use Rattle.points.specs.declared.awaits.Points.{Points}
 use Rattle.points.specs.declared.awaits.Points.the-variants.{Passed, Refused}
-use Rattle.verdict.specs.Points.{Checking, stop, on, andThen, ifPaid, costAt, awaitRun, pointRun, awaitsRun}
+use Rattle.verdict.specs.Points.{Checking, stop, on, andThen, ifPaid, awaitRun, pointRun, awaitsRun}
 use Rattle.points.specs.Rows.{pointsOf, backRun, ChargedBack}
 
 -- ---- a run from the back

@@ -14,6 +14,7 @@ use Rattle.dataflow.specs.Analyses.{initTransfer}
 use Rattle.dataflow.specs.Blocks.{exposed}
 use Rattle.dataflow.specs.Code.{Instruction, instructionAt, program}
 use Rattle.dataflow.specs.Verdict.{awaitAt}
+use Rattle.dataflow.specs.Charges.{costAt}
 use Rattle.dataflow.proofs.Blocks.{uses-exposed}
 use Rattle.dataflow.proofs.Lists.{every-to, mem-elem}
 use Rattle.budget.specs.declared.FlowBudget.{FlowBudget}
@@ -26,7 +27,7 @@ use Rattle.memory.specs.Cells.{Mem, cell}
 use Rattle.memory.specs.Names.{usesRow, stateRow}
 use Rattle.memory.specs.declared.layout.Layout.{Layout}
 use Rattle.operands.specs.Kinds.{isAwait}
-use Rattle.verdict.specs.Points.{Checking, stop, on, ifPaid, costAt, readsRun}
+use Rattle.verdict.specs.Points.{Checking, stop, on, ifPaid, readsRun}
 use Rattle.answer.specs.Words.{Means}
 use Rattle.points.specs.declared.reads.Reads.{Reads}
 use Rattle.points.specs.declared.reads.Reads.the-variants.{Filled, Over}

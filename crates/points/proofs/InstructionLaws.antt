@@ -13,6 +13,7 @@ use Rattle.dataflow.specs.Lists.{pick, range, some}
 use Rattle.dataflow.specs.Analyses.{liveTransfer}
 use Rattle.dataflow.specs.Code.{Instruction, instructionAt, program}
 use Rattle.dataflow.specs.Verdict.{awaitAt}
+use Rattle.dataflow.specs.Charges.{costAt}
 use Rattle.dataflow.proofs.Bools.{and-left, and-right, same-truth}
 use Rattle.dataflow.proofs.Lists.{mem-range, some-at, some-to}
 use Rattle.budget.specs.declared.FlowBudget.{FlowBudget}
@@ -36,7 +37,7 @@ use Rattle.script.specs.Script.{flowCode, parameterIn, hostIn}
 use Rattle.points.specs.declared.awaits.Points.{Points}
 use Rattle.points.specs.declared.awaits.Points.the-variants.{Refused}
 use Rattle.answer.specs.Words.{Means}
-use Rattle.verdict.specs.Points.{Checking, stop, ifPaid, ifKept, costAt, awaitRun, pointRun}
+use Rattle.verdict.specs.Points.{Checking, stop, ifPaid, ifKept, awaitRun, pointRun}
 use Rattle.points.specs.Rows.{Coded, pointsOf, awaitRows, AwaitChecked, InstructionChecked}
 use Rattle.points.specs.Slots.{removedAll}
 use Rattle.points.proofs.MeansLaws.{means-live}

@@ -10,6 +10,7 @@ use Rattle.dataflow.specs.Lists.{pick, range, every, keep}
 use Rattle.dataflow.specs.Analyses.{initTransfer}
 use Rattle.dataflow.specs.Code.{Instruction, instructionAt, program}
 use Rattle.dataflow.specs.Verdict.{awaitAt}
+use Rattle.dataflow.specs.Charges.{costAt}
 use Rattle.dataflow.proofs.Bools.{not-yes, not-true}
 use Rattle.dataflow.proofs.Lists.{keep-both, every-at, every-to, mem-getD, mem-place}
 use Rattle.budget.specs.declared.FlowBudget.{FlowBudget}
@@ -34,7 +35,7 @@ use Rattle.blocks.proofs.ReadLaws.{Read, stands-at, read-at}
 use Rattle.blocks.proofs.TransferLaws.{range-more}
 use Rattle.points.specs.declared.reads.Reads.{Reads}
 use Rattle.points.specs.declared.reads.Reads.the-variants.{Filled, Unfilled, Over}
-use Rattle.verdict.specs.Points.{Checking, stop, on, ifPaid, costAt, readsRun}
+use Rattle.verdict.specs.Points.{Checking, stop, on, ifPaid, readsRun}
 use Rattle.answer.specs.Words.{Means}
 use Rattle.points.specs.Rows.{Coded, awaitsAmong, readsOf, ReadsChecked}
 use Rattle.points.specs.Slots.{awaitCount}

@@ -10,6 +10,7 @@ use Rattle.dataflow.specs.Analyses.{liveTransfer}
 use Rattle.dataflow.specs.Blocks.{uses}
 use Rattle.dataflow.specs.Code.{Instruction, program}
 use Rattle.dataflow.specs.Verdict.{awaitAt}
+use Rattle.dataflow.specs.Charges.{costAt}
 use Rattle.budget.specs.declared.FlowBudget.{FlowBudget}
 use Rattle.budget.specs.declared.Limits.{Limits}
 use Rattle.format.specs.declared.refusal.Refusal.the-variants.{WorkLimit, UnfilledSlot, HostOverAwait}
@@ -26,7 +27,7 @@ use Rattle.points.specs.declared.reads.Reads.the-variants.{Filled, Unfil
 use Rattle.points.specs.declared.awaits.Points.{Points}
 use Rattle.points.specs.declared.awaits.Points.the-variants.{Passed, Refused}
 use Rattle.answer.specs.Words.{Means}
-use Rattle.verdict.specs.Points.{Checking, stop, on, andThen, ifPaid, ifKept, Point, costAt, readsRun, pointRun, awaitsRun, awaitPoints}
+use Rattle.verdict.specs.Points.{Checking, stop, on, andThen, ifPaid, ifKept, Point, readsRun, pointRun, awaitsRun, awaitPoints}
 
 -- the instructions of a sheet that passed can be read, with their costs and, if there may be an await, the row of host slots
 pub record Coded (s : List ℕ) (x : Script) (y : Layout) (m : Mem) : Type 0 where

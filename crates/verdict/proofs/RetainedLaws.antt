@@ -8,7 +8,7 @@ use native.Mathlib.Nat.{add-mul, suc-mul, zero-mul}
 use lib.Dec.{leb}
 use lib.ListN.{length, length-append}
 use Rattle.dataflow.specs.Lists.{pick, range, every, some}
-use Rattle.dataflow.specs.Charges.{Spent, within, crossed, saturatingSum, spend}
+use Rattle.dataflow.specs.Charges.{costAt, Spent, within, crossed, saturatingSum, spend}
 use Rattle.dataflow.proofs.Charges.{sum-exact}
 use Rattle.dataflow.specs.Analyses.{initTransfer, liveAlong}
 use Rattle.dataflow.specs.Code.{Instruction, instructionAt, program, body}
@@ -21,7 +21,7 @@ use Rattle.budget.specs.declared.Charged.the-variants.{Ok, Over}
 use Rattle.budget.specs.Budget.{afterSpent, budgetOf, charged, retained, factsBytes}
 use Rattle.format.specs.declared.refusal.Refusal.{Refusal}
 use Rattle.format.specs.declared.refusal.Refusal.the-variants.{UnfilledSlot, HostOverAwait}
-use Rattle.verdict.specs.Points.{Checking, stop, on, andThen, ifPaid, ifKept, costAt}
+use Rattle.verdict.specs.Points.{Checking, stop, on, andThen, ifPaid, ifKept}
 use Rattle.verdict.specs.Points.{readsRun, awaitRun, pointRun, awaitsRun, blockRun, blocksRun, pointsRun}
 use Rattle.verdict.specs.Points.{Point, awaitPoints, blockPoints, points}
 

@@ -12,6 +12,7 @@ use Rattle.dataflow.specs.Code.{Instruction, instructionAt, program, body}
 use Rattle.dataflow.specs.Checked.{Checked}
 use Rattle.dataflow.specs.Results.{blockCount, reachable, initEntry, liveExit}
 use Rattle.dataflow.specs.Verdict.{awaitAt, unfilledRead, hostSaved, blockUnfilled, blockHolds, accepts}
+use Rattle.dataflow.specs.Charges.{costAt}
 use Rattle.dataflow.proofs.Bools.{not-true}
 use Rattle.dataflow.proofs.Results.{reachable-iff}
 use Rattle.dataflow.proofs.Verdict.{block-unfilled-iff, block-holds-iff, accepts-iff}
@@ -22,7 +23,7 @@ use Rattle.budget.specs.declared.Charged.the-variants.{Ok, Over}
 use Rattle.budget.specs.Budget.{charged, retained, factsBytes}
 use Rattle.format.specs.declared.refusal.Refusal.{Refusal}
 use Rattle.format.specs.declared.refusal.Refusal.the-variants.{WorkLimit, UnfilledSlot, HostOverAwait, FactsLimit}
-use Rattle.verdict.specs.Points.{Checking, stop, on, andThen, ifPaid, ifKept, costAt}
+use Rattle.verdict.specs.Points.{Checking, stop, on, andThen, ifPaid, ifKept}
 use Rattle.verdict.specs.Points.{readsRun, awaitRun, pointRun, awaitsRun, blockRun, blocksRun, pointsRun}
 
 -- ── What a run says ──

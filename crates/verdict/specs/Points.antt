@@ -2,12 +2,12 @@
 use mathlib.Core.Bool.{Bool, _&&_}
 use mathlib.Core.List.{List, [], _∷_, _++_}
 use Prim.Native.Nat.{ℕ, _+_}
-use lib.ListN.{length}
 use Rattle.dataflow.specs.Lists.{pick, range, every, some}
 use Rattle.dataflow.specs.Analyses.{initTransfer, liveAlong}
 use Rattle.dataflow.specs.Code.{Instruction, instructionAt, program, body}
 use Rattle.dataflow.specs.Results.{blockCount, reachable, initEntry, liveExit}
 use Rattle.dataflow.specs.Verdict.{awaitAt}
+use Rattle.dataflow.specs.Charges.{costAt}
 use Rattle.budget.specs.declared.FlowBudget.{FlowBudget}
 use Rattle.budget.specs.declared.Limits.{Limits}
 use Rattle.budget.specs.declared.Charged.{Charged}
@@ -40,10 +40,6 @@ ifKept (Over b) = stop FactsLimit b
 pub record Point : Type 0 where
   pub instruction : ℕ
   pub live : ℕ → Bool
-
--- one more than its inputs is charged for an instruction
-abbrev pub costAt : List Instruction → ℕ → ℕ
-costAt code i = length (instructionAt code i .inputs) + 1
 
 module _ (code : List Instruction) (parameter : ℕ → Bool) (l : Limits) where
   -- the reads of a list, from the front: 13 at the first instruction with an input that is not in the set, which is f before the list
