@@ -1,6 +1,6 @@
 -- Where a block lies in the code, and that its awaits are counted once: all blocks together have no more points than the code has awaits.
 -- Assumes nothing.
-use mathlib.Core.Path.{_≡_, refl, sym, ap, ap₂, subst, _∙_}
+use mathlib.Core.Path.{_≡_, refl, sym, ap, subst, _∙_}
 use mathlib.Core.Bool.{Bool, true, false, true≢false, false≢true}
 use mathlib.Core.List.{List, [], _∷_, _++_, append-assoc}
 use Prim.Native.Nat.{ℕ, suc, _+_, _-_, _≤_, _<_}
@@ -11,11 +11,11 @@ use Rattle.dataflow.specs.Lists.{pick, range, keep}
 use Rattle.dataflow.specs.Analyses.{liveAlong}
 use Rattle.dataflow.specs.Blocks.{pointsOf}
 use Rattle.dataflow.specs.Code as flow
-use Rattle.dataflow.specs.Code.{leaders, body, blockGraph, outside}
+use Rattle.dataflow.specs.Code.{body, blockGraph, outside}
 use Rattle.dataflow.specs.Results.{blockCount, reachable, liveExit}
 use Rattle.dataflow.specs.Verdict.{awaitAt}
 use Rattle.dataflow.proofs.Lists.{map-at, keep-both}
-use Rattle.dataflow.proofs.Leaders.{leaders-below, block-range, blocks-cover}
+use Rattle.dataflow.proofs.Leaders.{blocks-cover}
 use Rattle.operands.specs.Kinds.{isAwait}
 use Rattle.memory.specs.Cells.{Mem, word}
 use Rattle.memory.specs.Names.{startCell, endCell}
@@ -25,7 +25,8 @@ use Rattle.sheet.specs.Decode.{Instruction, partsOf}
 use Rattle.sheet.specs.Checks.{awaitsIn}
 use Rattle.instructions.specs.Sound.{Sound}
 use Rattle.script.specs.Script.{flowInstruction, flowCode, parameterIn}
-use Rattle.script.proofs.ScriptLaws.{code-length}
+use Rattle.script.proofs.ScriptLaws.{code-length, checked}
+use Rattle.blocks.proofs.CodeLaws.{spans-at}
 use Rattle.verdict.specs.Points.{Point, awaitPoints, blockPoints, points}
 use Rattle.check_points.specs.CheckPoints.{codeOf, Solved}
 
@@ -40,24 +41,14 @@ pub record Span (s : List ℕ) (y : Layout) (c start end : ℕ) : Type 0 where
 -- so the words START and END say
 pub spans : {s : List ℕ} {x : Script} {y : Layout} {m t : Mem} → Solved s x y m t → (c : ℕ) → c < y .blocks → {start end : ℕ}
     → start ≡ word m startCell c → end ≡ word m endCell c → Span s y c start end
-spans {s} {x} {y} p c lc {start} {end} e f = record {
-  ordered = omega (arith, first, last, size);
-  inside = omega (arith, last, leaders-below (codeOf s) (suc c), code-length s x (p .coded .sound), p .coded .instructions);
-  is = block .0 ∙ ap₂ range (sym first) (let n : length (body (codeOf s) c) ≡ end - start = omega (arith, first, last, size) in n);
-}
-  where
-    block : (body (codeOf s) c ≡ range (getD (leaders (codeOf s)) c (length (codeOf s))) (length (body (codeOf s) c)))
-        × (getD (leaders (codeOf s)) c (length (codeOf s)) + length (body (codeOf s) c) ≡ getD (leaders (codeOf s)) (suc c) (length (codeOf s)))
-    block = block-range (codeOf s) c (subst (λ (n : ℕ). c < n) (p .flows .blocks) lc)
-
-    first : start ≡ getD (leaders (codeOf s)) c (length (codeOf s))
-    first = e ∙ p .starts c lc
-
-    last : end ≡ getD (leaders (codeOf s)) (suc c) (length (codeOf s))
-    last = f ∙ p .ends c lc
-
-    size : getD (leaders (codeOf s)) c (length (codeOf s)) + length (body (codeOf s) c) ≡ getD (leaders (codeOf s)) (suc c) (length (codeOf s))
-    size = block .1
+spans {s} {x} {y} p c lc {start} {end} e f =
+    let z = spans-at (codeOf s) (parameterIn (partsOf s)) (x .slots) (checked s x (p .coded .sound)) c start end
+    (subst (λ (n : ℕ). c < n) (p .flows .blocks) lc) (e ∙ p .starts c lc) (f ∙ p .ends c lc) in
+    record {
+      ordered = omega (arith, z .some);
+      inside = omega (arith, z .inside, code-length s x (p .coded .sound), p .coded .instructions);
+      is = z .is;
+    }
 
 -- ---- the awaits of a list
 

@@ -18,26 +18,14 @@ use Rattle.script.specs.Script.{parameterIn, hostIn}
 use Rattle.verdict.specs.Points.{Checking, andThen, Point, blockRun, blocksRun, pointsRun, blockPoints, points}
 use Rattle.points.specs.declared.awaits.Points.{Points}
 use Rattle.points.specs.declared.awaits.Points.the-variants.{Passed, Refused}
-use Rattle.points.specs.Rows.{pointsOf, Entry, Entries}
+use Rattle.points.specs.Rows.{pointsOf, Entries}
+use Rattle.points.proofs.BackwardLaws.{entries-kept}
 use Rattle.check_points.specs.CheckPoints.{codeOf, Solved, factsOf, Facing, BlockChecked, PointsChecked}
 use Rattle.check_points.proofs.SolvedLaws.{RunningOnly, running-then, solved-kept, solved-sets}
 use Rattle.check_points.proofs.SpanLaws.{blocks-append, points-few}
 use Rattle.check_points.proofs.CheckedLaws.{same-place, not-passed}
 
 -- ---- entries
-
--- an entry stays where its cell does
-entry-kept : (w : ℕ) {ws ws′ : List ℕ} (p : Point) → ws′ ≡ ws → Entry w ws p → Entry w ws′ p
-entry-kept w p e h = (h .0, e ∙ h .1, h .2)
-
--- entries stay where their cells do
-entries-kept : (y : Layout) (t t′ : Mem) (first : ℕ) (ps : List Point)
-    → ((k : ℕ) → k < 2 * y .blocks + (first + length ps) → cell t′ k ≡ cell t k) → Entries y t first ps → Entries y t′ first ps
-entries-kept y t t′ first [] h g = tt
-entries-kept y t t′ first (p ∷ ps) h g = (
-  entry-kept (y .words) p (h (2 * y .blocks + first) (omega arith)) (g .0),
-  entries-kept y t t′ (first + 1) ps (λ k lt. h k (omega arith)) (g .1),
-)
 
 -- entries, and then more
 entries-append : (y : Layout) (t : Mem) (first : ℕ) (ps qs : List Point) → Entries y t first ps → Entries y t (first + length ps) qs
@@ -195,7 +183,7 @@ module _ {s : List ℕ} {x : Script} {y : Layout} {l : Limits} {b : FlowBudget} 
         );
         entries = subst (λ (ps : List Point). Entries y t″ 0 ps) (sym (points-more s (y .words) block))
             (entries-append y t″ 0 (pointsBefore s (y .words) block) (factsOf s (y .words) block)
-            (entries-kept y t′ t″ 0 (pointsBefore s (y .words) block) (λ k kt. p .earlier n last e k (omega (arith, kt, h .count))) (h .entries))
+            (entries-kept y t′ t″ 0 (pointsBefore s (y .words) block) (λ k lo kt. p .earlier n last e k (omega (arith, kt, h .count))) (h .entries))
             (subst (λ (k : ℕ). Entries y t″ k (factsOf s (y .words) block))
             (let z : place ≡ 0 + length (pointsBefore s (y .words) block) = omega (arith, h .count) in z) (p .entries n last e)));
         rows = λ k kt. below k kt ∙ h .rows k kt;

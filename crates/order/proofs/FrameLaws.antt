@@ -10,6 +10,7 @@ use Rattle.memory.specs.Cells.{Mem, cell, word}
 use Rattle.memory.specs.Names.{stackBlockCell, stackEdgeCell}
 use Rattle.memory.specs.declared.layout.Layout.{Layout}
 use Rattle.edges.specs.Edges.{Holds, Held}
+use Rattle.edges.proofs.EdgeLaws as graph
 use Rattle.order.specs.Turns.{framesOf, stackOf, Kept, Facing}
 
 -- what the word at i of the stack's cells says
@@ -66,22 +67,9 @@ frames-next next bs es i e g =
 
 -- ---- the graph
 module _ (m m′ : Mem) (k : Kept m m′) where
-  kept-word : (j i : ℕ) → (j ≡ 10 → ⊥) → (j ≡ 13 → ⊥) → (j ≡ 14 → ⊥) → (j ≡ 15 → ⊥) → word m′ j i ≡ word m j i
-  kept-word j i a b c d = ap (λ (x : List ℕ). getD x i 0) (k j a b c d)
-
-  count-kept : (b : ℕ) → word m′ 7 b ≡ word m 7 b
-  count-kept b = kept-word 7 b (λ q. omega arith) (λ q. omega arith) (λ q. omega arith) (λ q. omega arith)
-
-  edge-kept : (i : ℕ) → word m′ 16 i ≡ word m 16 i
-  edge-kept i = kept-word 16 i (λ q. omega arith) (λ q. omega arith) (λ q. omega arith) (λ q. omega arith)
-
   pub holds-kept : {next : ℕ → List ℕ} {y : Layout} → Holds next y m → Holds next y m′
-  holds-kept h = record {
-    counted = λ b lt. count-kept b ∙ h .counted b lt;
-    stored = λ b i lt g. edge-kept _ ∙ h .stored b i lt g;
-    few = h .few;
-    below = h .below;
-  }
+  holds-kept h = graph.holds-kept (k 7 (λ q. omega arith) (λ q. omega arith) (λ q. omega arith) (λ q. omega arith))
+      (k 16 (λ q. omega arith) (λ q. omega arith) (λ q. omega arith) (λ q. omega arith)) h
 
   pub held-kept : (y : Layout) → Held y m → Held y m′
   held-kept y h = (h .0, holds-kept (h .1))

@@ -109,13 +109,14 @@ module _ (s : List ℕ) (x : Script) (y : Layout) (l : Limits) (end : ℕ) (g : 
 
 -- ---- entries
 
--- they stand where no cell from the first on changed
-entries-kept : (y : Layout) (t t′ : Mem) (first : ℕ) (ps : List Point) → ((k : ℕ) → 2 * y .blocks + first ≤ k → cell t′ k ≡ cell t k)
+-- they stay where their cells do
+pub entries-kept : (y : Layout) (t t′ : Mem) (first : ℕ) (ps : List Point)
+    → ((k : ℕ) → 2 * y .blocks + first ≤ k → k < 2 * y .blocks + (first + length ps) → cell t′ k ≡ cell t k)
     → Entries y t first ps → Entries y t′ first ps
 entries-kept y t t′ first [] h a = tt
 entries-kept y t t′ first (p ∷ ps) h a = (
-  subst (λ (ws : List ℕ). Entry (y .words) ws p) (sym (h (2 * y .blocks + first) (omega arith))) (a .0),
-  entries-kept y t t′ (first + 1) ps (λ k g. h k (omega arith)) (a .1),
+  subst (λ (ws : List ℕ). Entry (y .words) ws p) (sym (h (2 * y .blocks + first) (omega arith) (omega arith))) (a .0),
+  entries-kept y t t′ (first + 1) ps (λ k g l. h k (omega arith) (omega arith)) (a .1),
 )
 
 -- an await's facts are put before them
@@ -126,7 +127,7 @@ entries-more y t t′ n next pc row live ps true h e f m a =
     let q : next ≡ n + 1 = omega arith in (
       (row, ap (λ (w : Mem). cell w (2 * y .blocks + n)) f ∙ cell-store-same t (2 * y .blocks + n) (pc ∷ row) (omega arith), m),
       entries-kept y t t′ (n + 1) ps
-          (λ k g. ap (λ (w : Mem). cell w k) f ∙ cell-store-other t (2 * y .blocks + n) (pc ∷ row) k (λ w. omega arith))
+          (λ k g l. ap (λ (w : Mem). cell w k) f ∙ cell-store-other t (2 * y .blocks + n) (pc ∷ row) k (λ w. omega arith))
           (subst (λ (k : ℕ). Entries y t k ps) q a),
     )
 entries-more y t t′ n next pc row live ps false h e f m a =
