@@ -37,7 +37,7 @@ use Rattle.sheet.specs.declared.script.Script.{Script}
 use Rattle.sheet.specs.Decode.{partsOf}
 use Rattle.instructions.specs.declared.placed.Placed.{Placed}
 use Rattle.instructions.specs.Placed.{Stands, placedAt}
-use Rattle.instructions.specs.Sets.{AllBelow}
+use Rattle.bitset.specs.Below.{AllBelow}
 use Rattle.script.specs.Script.{flowCode, parameterIn}
 use Rattle.script.proofs.ScriptLaws.{code-length, checked}
 use Rattle.leaders.proofs.LeaderLaws.{targets-at}

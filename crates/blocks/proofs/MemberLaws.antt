@@ -15,20 +15,20 @@ use Rattle.dataflow.specs.Blocks.{uses, defines}
 use Rattle.dataflow.specs.Code.{Instruction, instructionAt, program}
 use Rattle.bitset.specs.Below.{AllBelow}
 use Rattle.instructions.specs.Sets.{insertedAll}
+use Rattle.operands.specs.Patterns.{among}
 use Rattle.instructions.proofs.SetSteps.{length-all}
+use Rattle.instructions.proofs.SetMembers as sets
 use Rattle.blocks.specs.Rows.{usedIn, Transfer, transferOne, transferAll}
 
 -- ---- the outputs put in
 
+among-elem : (k : ℕ) (l : List ℕ) → among k l ≡ elem k l
+among-elem k [] = refl
+among-elem k (x ∷ l) = ap (λ (t : Bool). eqb k x || t) (among-elem k l)
+
 pub member-all : (l ws : List ℕ) (w k : ℕ) → length ws ≡ w → AllBelow (64 * w) l → member (insertedAll l ws) k ≡ (member ws k || elem k l)
-unfolding insertedAll
-member-all [] ws w k q a = sym (or-false (member ws k))
-member-all (x ∷ l) ws w k q a =
-    let h = a .0 in
-    member-all l (inserted ws x) w k (length-inserted ws x ∙ q) (a .1)
-    ∙ ap (λ (t : Bool). t || elem k l) (member-inserted ws x (omega arith) k
-    ∙ ap (λ (t : Bool). t || member ws k) (same-either-way x k) ∙ or-comm (eqb k x) (member ws k))
-    ∙ or-assoc (member ws k) (eqb k x) (elem k l)
+member-all l ws w k q a =
+    sets.member-all l ws k (rw q a) ∙ or-comm (among k l) (member ws k) ∙ ap (λ (t : Bool). member ws k || t) (among-elem k l)
 
 -- ---- the inputs that are not defined put in
 

@@ -15,7 +15,7 @@ use Rattle.instructions.specs.declared.placed.Placed.{Placed}
 use Rattle.instructions.specs.Placed.{Stands, placedAt}
 use Rattle.bitset.specs.Below.{AllBelow}
 use Rattle.instructions.specs.Sound.{Sound, codeOffset, codeInstruction}
-use Rattle.instructions.proofs.Below.{below-up}
+use Rattle.bitset.proofs.Below.{below-up}
 use Rattle.script.specs.Script.{listOf, flowInstruction, flowCode}
 use Rattle.script.proofs.ScriptLaws.{code-at, everywhere}
 use Rattle.leaders.proofs.LeaderLaws.{placed-is, readable-at}

@@ -1,18 +1,17 @@
 -- What is in the sets of parameters and of host slots: the parameters, and the host slots. Assumes nothing.
 use mathlib.Core.Path.{_≡_, refl, ap, sym, _∙_}
-use mathlib.Core.Bool.{Bool, true, false, _||_, _&&_}
+use mathlib.Core.Bool.{Bool, true, false, _||_, _&&_, and-true, and-false, or-false}
 use mathlib.Core.List.{List, [], _∷_}
 use Prim.Native.Nat.{ℕ, zero, suc, _+_, _*_, _/_, _≤_, _<_}
 use native.Mathlib.Omega.{arith}
-use borrow.Author.Tests.{eq-eqb, ne-eqb, eqb-true, eqb-false}
+use borrow.Author.Tests.{eq-eqb, ne-eqb}
 use lib.Dec.{eqb}
 use lib.ListN.{length, getD, replicate, length-replicate}
 use Rattle.operands.specs.Choice.{pick}
 use Rattle.operands.specs.Patterns.{among}
 use Rattle.bitset.specs.Sets.{member, inserted}
-use Rattle.bitset.proofs.SetLaws.{length-inserted, member-inserted, member-zero}
+use Rattle.bitset.proofs.SetLaws.{same-either-way, length-inserted, member-inserted, member-zero}
 use Rattle.format.specs.Types.{absent}
-use Rattle.format.proofs.Or.{or-false}
 use Rattle.sheet.specs.Decode.{SlotKind, Parts, partsOf, recordsFrom}
 use Rattle.sheet.specs.declared.script.Script.{Script}
 use Rattle.instructions.specs.Slots.{isHost}
@@ -22,20 +21,14 @@ use Rattle.instructions.specs.Sound.{Sound}
 use Rattle.bitset.proofs.Below.{below-up}
 use Rattle.instructions.proofs.SetSteps.{length-pick}
 
-same-either-way : (i k : ℕ) → eqb i k ≡ eqb k i
-same-either-way i k = go (eqb i k) refl
-  where
-    go : (b : Bool) → eqb i k ≡ b → b ≡ eqb k i
-    go true e = sym (eq-eqb k i (sym (eqb-true i k e)))
-    go false e = sym (ne-eqb k i (λ q. eqb-false i k e (sym q)))
-
 or-swap : (a b c : Bool) → (a || (b || c)) ≡ ((b || a) || c)
 or-swap true true c = refl
 or-swap true false c = refl
 or-swap false true c = refl
 or-swap false false c = refl
 
-member-all : (xs ws : List ℕ) (k : ℕ) → AllBelow (64 * length ws) xs → member (insertedAll xs ws) k ≡ (among k xs || member ws k)
+-- what is in a set with such slots put in
+pub member-all : (xs ws : List ℕ) (k : ℕ) → AllBelow (64 * length ws) xs → member (insertedAll xs ws) k ≡ (among k xs || member ws k)
 unfolding insertedAll
 member-all [] ws k a = refl
 member-all (x ∷ xs) ws k a =
@@ -53,15 +46,7 @@ hostFrom (x ∷ xs) j k = (eqb j k && isHost x) || hostFrom xs (j + 1) k
 
 member-pick : (b : Bool) (ws : List ℕ) (j k : ℕ) → j / 64 < length ws → member (pick b (inserted ws j) ws) k ≡ ((eqb j k && b) || member ws k)
 member-pick true ws j k m = member-inserted ws j m k ∙ ap (λ (t : Bool). t || member ws k) (sym (and-true (eqb j k)))
-  where
-    and-true : (b : Bool) → (b && true) ≡ b
-    and-true true = refl
-    and-true false = refl
 member-pick false ws j k m = ap (λ (t : Bool). t || member ws k) (sym (and-false (eqb j k)))
-  where
-    and-false : (b : Bool) → (b && false) ≡ false
-    and-false true = refl
-    and-false false = refl
 
 member-hosts : (xs : List SlotKind) (j : ℕ) (ws : List ℕ) (k : ℕ) → j + length xs ≤ 64 * length ws
     → member (insertedHosts xs j ws) k ≡ (hostFrom xs j k || member ws k)

@@ -28,8 +28,9 @@ use Rattle.sheet.specs.declared.script.Script.{Script}
 use Rattle.sheet.specs.Decode.{partsOf}
 use Rattle.instructions.specs.declared.placed.Placed.{Placed}
 use Rattle.instructions.specs.Placed.{Stands, placedAt}
-use Rattle.instructions.specs.Sets.{AllBelow, insertedAll}
-use Rattle.instructions.proofs.Below.{below-getD}
+use Rattle.bitset.specs.Below.{AllBelow}
+use Rattle.instructions.specs.Sets.{insertedAll}
+use Rattle.bitset.proofs.Below.{below-getD}
 use Rattle.script.specs.Script.{flowCode}
 use Rattle.blocks.proofs.ReadLaws.{Read, stands-at, read-at}
 use Rattle.blocks.proofs.TransferLaws.{range-more}

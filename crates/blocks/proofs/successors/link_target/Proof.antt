@@ -9,7 +9,7 @@ use Rattle.memory.specs.Names.{blockOfCell, successorCell}
 use Rattle.memory.specs.Scratch.{scratch}
 use Rattle.operands.specs.Instructions.{valuesOf, targetIn}
 use Rattle.operands.specs.Operands.{targetsOf}
-use Rattle.instructions.proofs.Below.{below-getD}
+use Rattle.bitset.proofs.Below.{below-getD}
 use Rattle.leaders.proofs.MarkLaws.{operand-there, operand-missing}
 use Rattle.blocks.proofs.successors.link_target.Statement.{statement}
 use Rattle.blocks.proofs.successors.link_target.Tie as tie

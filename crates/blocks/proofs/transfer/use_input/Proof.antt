@@ -7,7 +7,7 @@ use Rattle.memory.specs.Scratch.{scratch}
 use Rattle.operands.specs.Instructions.{valuesOf, slotIn}
 use Rattle.operands.specs.Operands.{inputsOf}
 use Rattle.blocks.proofs.UseLaws.{used-one}
-use Rattle.instructions.proofs.Below.{below-getD}
+use Rattle.bitset.proofs.Below.{below-getD}
 use Rattle.leaders.proofs.MarkLaws.{operand-there, operand-missing}
 use Rattle.blocks.proofs.transfer.use_input.Statement.{statement}
 use Rattle.blocks.proofs.transfer.use_input.Tie as tie

@@ -8,7 +8,7 @@ use Rattle.memory.specs.Cells.{cell, storeCell}
 use Rattle.memory.specs.Scratch.{scratch}
 use Rattle.operands.specs.Instructions.{valuesOf, slotIn}
 use Rattle.operands.specs.Operands.{inputsOf}
-use Rattle.instructions.proofs.Below.{below-getD}
+use Rattle.bitset.proofs.Below.{below-getD}
 use Rattle.leaders.proofs.MarkLaws.{operand-there, operand-missing}
 use borrow.Author.Needs.{needs}
 use Rattle.points.proofs.slots.insert_input.Statement.{statement}
