@@ -3,7 +3,7 @@ ghost use mathlib.Core.Path.{_≡_};
 ghost use mathlib.Core.List.{[], _∷_};
 ghost use Prim.Native.Nat.{_≤_};
 ghost use Rattle.dataflow.specs.Charges.{saturatingSum};
-ghost use Rattle.budget.specs.Budget.{todays, charged, retained, stateBytes, factsBytes};
+ghost use Rattle.budget.specs.Budget.{todays, budgetOf, charged, retained, stateBytes, factsBytes};
 
 // Work charged and bytes of await facts retained so far.
 pub struct FlowBudget {
@@ -22,6 +22,18 @@ pub struct Limits {
 pub enum Charged {
     Ok(FlowBudget),
     Over(FlowBudget),
+}
+
+impl Charged {
+    // The budget in it, whether a limit was crossed or not.
+    pub fn budget(self) -> FlowBudget
+        ensures { λ r. ⌜ r ≡ budgetOf self ⌝ }
+    {
+        match self {
+            Charged::Ok(b) => b,
+            Charged::Over(b) => b,
+        }
+    }
 }
 
 // The sum, or the largest number where it would not fit.

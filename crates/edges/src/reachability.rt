@@ -9,7 +9,6 @@ ghost use mathlib.Core.Path.{_≡_};
 ghost use Prim.Native.Nat.{_<_};
 ghost use lib.ListN.{length};
 ghost use Rattle.memory.specs.Names.{reachableCell};
-ghost use Rattle.budget.specs.Budget.{budgetOf};
 ghost use Rattle.memory.specs.Scratch.{scratch, Room};
 ghost use Rattle.edges.specs.Edges.{Held, Cleared};
 ghost use Rattle.edges.specs.Reachability.{Reached};
@@ -84,7 +83,7 @@ fn push_successors(
     while k < n {
         let c = left.charge(1, limits);
         let Charged::Ok(b) = c else {
-            return over(c);
+            return Pushed::Over(c.budget());
         };
         left = b;
         let to = memory::scratch::get(s, y, layout::SUCCESSOR, 2 * block + k) as usize;
@@ -101,16 +100,6 @@ fn crossed(p: Pushed) -> Charged
     match p {
         Pushed::Ok(_, b) => Charged::Over(b),
         Pushed::Over(b) => Charged::Over(b),
-    }
-}
-
-// A crossed limit as an answer for one block.
-fn over(c: Charged) -> Pushed
-    ensures { λ r. ⌜ r ≡ Pushed.Over (budgetOf c) ⌝ }
-{
-    match c {
-        Charged::Ok(b) => Pushed::Over(b),
-        Charged::Over(b) => Pushed::Over(b),
     }
 }
 

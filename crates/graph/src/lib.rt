@@ -5,6 +5,7 @@ use budget::Limits;
 use instructions::sets;
 use memory::layout::Layout;
 use rooms::Lent;
+use format::refusal::Refusal;
 use rooms::Staged;
 use sheet::script::Script;
 ghost use mathlib.Core.Path.{_≡_};
@@ -60,7 +61,7 @@ fn build(
 {
     let c = blocks::blocks::blocks(sheet, s, t, script, y, limits, budget);
     let Charged::Ok(left) = c else {
-        return rooms::over(c);
+        return Staged::Refused(Refusal::WorkLimit, c.budget());
     };
     join(sheet, s, script, y);
     reach(s, y, limits, left)
@@ -92,7 +93,7 @@ fn reach(s: &mut [u64], y: Layout, limits: Limits, budget: FlowBudget) -> Staged
 {
     let c = edges::reachability::reachability(s, y, limits, budget);
     let Charged::Ok(left) = c else {
-        return rooms::over(c);
+        return Staged::Refused(Refusal::WorkLimit, c.budget());
     };
     Staged::Ok(y, left)
 }

@@ -11,8 +11,6 @@ use sheet::script::Script;
 ghost use mathlib.Core.Path.{_≡_};
 ghost use Prim.Native.Nat.{_*_, _-_, _^_, _≤_, _<_};
 ghost use lib.ListN.{length};
-ghost use Rattle.budget.specs.Budget.{budgetOf};
-ghost use Rattle.format.specs.declared.refusal.Refusal.the-variants.{WorkLimit};
 ghost use Rattle.memory.specs.Cells.{storeCell};
 ghost use Rattle.memory.specs.Names.{hostsRow};
 ghost use Rattle.memory.specs.Scratch.{scratch, Room};
@@ -66,7 +64,7 @@ fn solve(
 {
     let c = fixed_points::fixed_points(s, t, y, limits, budget);
     let Charged::Ok(left) = c else {
-        return over(c);
+        return Judged::Refused(Refusal::WorkLimit, c.budget());
     };
     hosts_if(sheet, s, script, y);
     point(
@@ -103,16 +101,6 @@ fn staged(g: Staged) -> Judged
     match g {
         Staged::Ok(_, b) => Judged::Refused(Refusal::NoRoom, b),
         Staged::Refused(r, b) => Judged::Refused(r, b),
-    }
-}
-
-// 12, with the sum that crossed the limit.
-fn over(c: Charged) -> Judged
-    ensures { λ r. ⌜ r ≡ Judged.Refused WorkLimit (budgetOf c) ⌝ }
-{
-    match c {
-        Charged::Ok(b) => Judged::Refused(Refusal::WorkLimit, b),
-        Charged::Over(b) => Judged::Refused(Refusal::WorkLimit, b),
     }
 }
 

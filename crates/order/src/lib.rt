@@ -10,7 +10,6 @@ ghost use lib.ListN.{length, replicate};
 ghost use Rattle.memory.specs.Cells.{cell, storeCell};
 ghost use Rattle.memory.specs.Names.{visitedCell};
 ghost use Rattle.memory.specs.Scratch.{scratch, Room};
-ghost use Rattle.budget.specs.Budget.{budgetOf};
 ghost use Rattle.edges.specs.Edges.{Held};
 ghost use Rattle.order.specs.Postorder.{Searched};
 ghost use Rattle.order.specs.Turns.{marks, Good, Kept, Begun, Facing, Entered, Turned, Looked, Resumed};
@@ -34,20 +33,10 @@ pub fn postorder(s: &mut [u64], y: Layout, limits: Limits, budget: FlowBudget) -
 {
     let c = budget.charge(3 * y.blocks as u64, limits);
     let Charged::Ok(left) = c else {
-        return unordered(c);
+        return Ordered::Over(c.budget());
     };
     start(s, y);
     search(s, y, limits, left)
-}
-
-// The answer where a charge crossed the limit.
-fn unordered(c: Charged) -> Ordered
-    ensures { λ r. ⌜ r ≡ Ordered.Over (budgetOf c) ⌝ }
-{
-    match c {
-        Charged::Ok(b) => Ordered::Over(b),
-        Charged::Over(b) => Ordered::Over(b),
-    }
 }
 
 // Block 0 alone is visited and on the stack.
@@ -85,7 +74,7 @@ fn search(s: &mut [u64], y: Layout, limits: Limits, budget: FlowBudget) -> Order
         }
         let c = left.charge(1, limits);
         let Charged::Ok(b) = c else {
-            return unordered(c);
+            return Ordered::Over(c.budget());
         };
         left = b;
         let w = advance(s, y, top, len);

@@ -14,8 +14,6 @@ ghost use mathlib.Core.Bool.{true};
 ghost use Prim.Native.Nat.{_+_, _≤_, _<_};
 ghost use lib.ListN.{length};
 ghost use Rattle.operands.specs.Kinds.{isAwait};
-ghost use Rattle.budget.specs.Budget.{budgetOf};
-ghost use Rattle.format.specs.declared.refusal.Refusal.the-variants.{WorkLimit, FactsLimit};
 ghost use Rattle.memory.specs.Scratch.{scratch, Room};
 ghost use Rattle.memory.specs.Sets.{sets, SetsRoom};
 ghost use Rattle.dataflow.specs.Verdict.{awaitAt};
@@ -81,7 +79,7 @@ pub fn charge_back(
         let cost = memory::scratch::get(s, y, layout::COST, pc);
         let c = left.charge(cost, limits);
         let Charged::Ok(b) = c else {
-            return over(c);
+            return Points::Refused(Refusal::WorkLimit, c.budget());
         };
         left = b;
     }
@@ -108,7 +106,7 @@ fn check_instruction(
     let cost = memory::scratch::get(s, y, layout::COST, pc);
     let c = budget.charge(cost, limits);
     let Charged::Ok(b) = c else {
-        return over(c);
+        return Points::Refused(Refusal::WorkLimit, c.budget());
     };
     let at = memory::scratch::get(s, y, layout::OFFSET, pc) as usize;
     let p = placed::instruction_at(sheet, at);
@@ -164,35 +162,15 @@ fn check_await(
 {
     let c = budget.charge(slots as u64, limits);
     let Charged::Ok(b) = c else {
-        return over(c);
+        return Points::Refused(Refusal::WorkLimit, c.budget());
     };
     if memory::rows::common(s, y, y.hosts(), y.live_state()) {
         return Points::Refused(Refusal::HostOverAwait, b);
     }
     let k = b.retain(budget::facts_bytes(y.words), limits);
     let Charged::Ok(kept) = k else {
-        return facts(k);
+        return Points::Refused(Refusal::FactsLimit, k.budget());
     };
     memory::rows::put_await(t, y, 2 * y.blocks + place, pc as u64, s, y.live_state());
     Points::Passed(place, kept)
-}
-
-// 12, with the sum that crossed the limit.
-pub fn over(c: Charged) -> Points
-    ensures { λ r. ⌜ r ≡ Points.Refused WorkLimit (budgetOf c) ⌝ }
-{
-    match c {
-        Charged::Ok(b) => Points::Refused(Refusal::WorkLimit, b),
-        Charged::Over(b) => Points::Refused(Refusal::WorkLimit, b),
-    }
-}
-
-// 15, likewise.
-fn facts(c: Charged) -> Points
-    ensures { λ r. ⌜ r ≡ Points.Refused FactsLimit (budgetOf c) ⌝ }
-{
-    match c {
-        Charged::Ok(b) => Points::Refused(Refusal::FactsLimit, b),
-        Charged::Over(b) => Points::Refused(Refusal::FactsLimit, b),
-    }
 }

@@ -11,7 +11,6 @@ use sheet::script::Script;
 ghost use mathlib.Core.Path.{_≡_};
 ghost use Prim.Native.Nat.{_≤_, _<_};
 ghost use lib.ListN.{length};
-ghost use Rattle.budget.specs.Budget.{budgetOf};
 ghost use Rattle.memory.specs.Scratch.{scratch, Room};
 ghost use Rattle.sheet.specs.Decode.{partsOf};
 ghost use Rattle.script.specs.Script.{flowCode, parameterIn};
@@ -68,7 +67,7 @@ fn charge_reads(
         let cost = memory::scratch::get(s, y, layout::COST, pc);
         let paid = left.charge(cost, limits);
         let Charged::Ok(b) = paid else {
-            return over(paid);
+            return Reads::Over(paid.budget());
         };
         left = b;
         let at = memory::scratch::get(s, y, layout::OFFSET, pc) as usize;
@@ -101,7 +100,7 @@ fn check_reads(
         let cost = memory::scratch::get(s, y, layout::COST, pc);
         let c = left.charge(cost, limits);
         let Charged::Ok(b) = c else {
-            return over(c);
+            return Reads::Over(c.budget());
         };
         left = b;
         let at = memory::scratch::get(s, y, layout::OFFSET, pc) as usize;
@@ -131,13 +130,4 @@ fn await_count(kind: usize) -> usize
         return 1;
     }
     0
-}
-
-fn over(c: Charged) -> Reads
-    ensures { λ r. ⌜ r ≡ Reads.Over (budgetOf c) ⌝ }
-{
-    match c {
-        Charged::Ok(b) => Reads::Over(b),
-        Charged::Over(b) => Reads::Over(b),
-    }
 }

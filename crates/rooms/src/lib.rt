@@ -8,7 +8,6 @@ use sheet::script::Script;
 ghost use mathlib.Core.Path.{_≡_};
 ghost use Prim.Native.Nat.{_+_, _*_, _≤_, _<_};
 ghost use lib.ListN.{length};
-ghost use Rattle.budget.specs.Budget.{budgetOf};
 ghost use mathlib.Core.Bool.{true};
 ghost use Rattle.memory.specs.Cells.{cell};
 ghost use Rattle.memory.specs.Names.{blockOfCell};
@@ -16,7 +15,6 @@ ghost use Rattle.memory.specs.Scratch.{scratch, Room};
 ghost use Rattle.leaders.specs.Leaders.{marking};
 ghost use Rattle.leaders.specs.Numbers.{marked, Numbered};
 ghost use Rattle.instructions.specs.Sound.{Sound};
-ghost use Rattle.format.specs.declared.refusal.Refusal.the-variants.{WorkLimit};
 ghost use Rattle.rooms.specs.Rooms.{layoutOf, shortOf, roomsOf, Counted, Measured};
 
 // How long the other lent buffers are: words of sets, and block records.
@@ -29,16 +27,6 @@ pub struct Lent {
 pub enum Staged {
     Ok(Layout, FlowBudget),
     Refused(Refusal, FlowBudget),
-}
-
-// 12, with the sum that crossed the limit.
-pub fn over(c: Charged) -> Staged
-    ensures { λ r. ⌜ r ≡ Staged.Refused WorkLimit (budgetOf c) ⌝ }
-{
-    match c {
-        Charged::Ok(b) => Staged::Refused(Refusal::WorkLimit, b),
-        Charged::Over(b) => Staged::Refused(Refusal::WorkLimit, b),
-    }
 }
 
 // The layout of both buffers for so many blocks.
@@ -90,7 +78,7 @@ fn count(
 {
     let c = leaders::leaders::leaders(sheet, s, script, limits, budget);
     let Charged::Ok(left) = c else {
-        return over(c);
+        return Staged::Refused(Refusal::WorkLimit, c.budget());
     };
     let blocks = number_blocks(s, script);
     rooms(layout(script, blocks), s.len(), lent, limits, left)
@@ -126,7 +114,7 @@ pub fn measure(
 {
     let c = budget.charge(0, limits);
     let Charged::Ok(left) = c else {
-        return over(c);
+        return Staged::Refused(Refusal::WorkLimit, c.budget());
     };
     count(sheet, s, script, lent, limits, left)
 }

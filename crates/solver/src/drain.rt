@@ -42,7 +42,7 @@ fn tell(
     while k < n {
         let c = left.charge(1, limits);
         let Charged::Ok(b) = c else {
-            return ring::stopped(c);
+            return Turn::Stop(c.budget());
         };
         left = b;
         let to = neighbors::end(s, y, side, edge) as usize;
@@ -113,7 +113,7 @@ fn visit(
     memory::scratch::put(s, y, layout::QUEUED, block, 0);
     let c = charge_visit(s, y, d, block, limits, budget);
     let Charged::Ok(left) = c else {
-        return ring::stopped(c);
+        return Turn::Stop(c.budget());
     };
     transfer::compute(s, t, y, d, block);
     settle(s, t, y, rest, d, block, limits, left)

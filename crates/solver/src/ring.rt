@@ -1,5 +1,4 @@
 // The ring of waiting blocks, in the cells RING and QUEUED.
-use budget::Charged;
 use budget::FlowBudget;
 use memory::layout;
 use memory::layout::Layout;
@@ -7,7 +6,6 @@ ghost use mathlib.Core.Path.{_≡_};
 ghost use Prim.Native.Nat.{_+_, _*_, _≤_, _<_};
 ghost use lib.ListN.{length};
 ghost use Rattle.memory.specs.Scratch.{scratch, Room};
-ghost use Rattle.budget.specs.Budget.{budgetOf};
 ghost use Rattle.solver.specs.Run.{wrap, Pushes, Offers};
 
 // Where the first of the waiting blocks stands, and how many wait.
@@ -20,16 +18,6 @@ pub struct Ring {
 pub enum Turn {
     Stop(FlowBudget),
     Done(Ring, FlowBudget),
-}
-
-// The answer where a charge crossed the limit.
-pub fn stopped(c: Charged) -> Turn
-    ensures { λ r. ⌜ r ≡ Turn.Stop (budgetOf c) ⌝ }
-{
-    match c {
-        Charged::Ok(b) => Turn::Stop(b),
-        Charged::Over(b) => Turn::Stop(b),
-    }
 }
 
 // A place of the ring: behind the last one comes the first.

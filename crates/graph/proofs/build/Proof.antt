@@ -1,8 +1,11 @@
 -- `graph::build` meets its contract. Assumes nothing.
+use mathlib.Core.Path.{ap}
 use native.Mathlib.Omega.{arith}
 use denote.Ref.{now}
 use Rattle.graph.proofs.GraphLaws.{built-over, join-held, reach-some, reach-held, built-on}
 use borrow.Author.Needs.{needs}
+use Rattle.format.specs.declared.refusal.Refusal.the-variants.{WorkLimit}
+use Rattle.rooms.specs.declared.Staged.the-variants.{Refused}
 use Rattle.graph.proofs.build.Statement.{statement}
 use Rattle.graph.proofs.build.Tie as tie
 
@@ -15,8 +18,8 @@ enum-known-c c = search needs
 enum-told : tie.Need-enum-told
 enum-told c = search needs
 
-over-requires : tie.Need-over-requires
-over-requires c κs = search needs
+budget-requires : tie.Need-budget-requires
+budget-requires c κs = search needs
 
 same-length : tie.Need-same-length
 same-length c = search needs
@@ -28,7 +31,7 @@ returns : tie.Need-returns
 returns c =
     let g = c .before .before .before .before .before .before .before .blocks2 .ensures in
     let a = c .before .before .before .before .before .before .before .before .before .before .before .before .before .args in
-    built-over (now (a .sheet)) (a .script) (a .y) (a .limits) (a .budget) _ _ _ _ _ g _ _ (c .before .enum-told .given .1) (c .over .ensures)
+    built-over (now (a .sheet)) (a .script) (a .y) (a .limits) (a .budget) _ _ _ _ _ g _ _ (c .before .enum-told .given .1) (ap (Refused WorkLimit) (c .budget .ensures))
 
 join-requires : tie.Need-join-requires
 join-requires c κs =
@@ -81,7 +84,7 @@ build-spec =
     blocks-requires
     enum-known-c
     enum-told
-    over-requires
+    budget-requires
     same-length
     same-length-2
     returns

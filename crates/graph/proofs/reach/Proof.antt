@@ -1,6 +1,9 @@
 -- `graph::reach` meets its contract. Assumes nothing.
+use mathlib.Core.Path.{ap}
 use Rattle.graph.proofs.GraphLaws.{reaches-over, reaches-on}
 use borrow.Author.Needs.{needs}
+use Rattle.format.specs.declared.refusal.Refusal.the-variants.{WorkLimit}
+use Rattle.rooms.specs.declared.Staged.the-variants.{Refused}
 use Rattle.graph.proofs.reach.Statement.{statement}
 use Rattle.graph.proofs.reach.Tie as tie
 
@@ -13,8 +16,8 @@ enum-known-c c = search needs
 enum-told : tie.Need-enum-told
 enum-told c = search needs
 
-over-requires : tie.Need-over-requires
-over-requires c κs = search needs
+budget-requires : tie.Need-budget-requires
+budget-requires c κs = search needs
 
 same-length : tie.Need-same-length
 same-length c = search needs
@@ -22,7 +25,7 @@ same-length c = search needs
 returns : tie.Need-returns
 returns c =
     let g = c .before .before .before .before .before .reachability .ensures in
-    reaches-over _ _ _ _ _ _ g _ _ (c .before .enum-told .given .1) (c .over .ensures)
+    reaches-over _ _ _ _ _ _ g _ _ (c .before .enum-told .given .1) (ap (Refused WorkLimit) (c .budget .ensures))
 
 same-length-2 : tie.Need-same-length-2
 same-length-2 c = search needs
@@ -38,7 +41,7 @@ reach-spec =
     reachability-requires
     enum-known-c
     enum-told
-    over-requires
+    budget-requires
     same-length
     returns
     same-length-2

@@ -1,8 +1,11 @@
 -- `judge::solve` meets its contract. Assumes nothing.
+use mathlib.Core.Path.{ap}
 use native.Mathlib.Omega.{arith}
 use denote.Ref.{now}
 use Rattle.judge.proofs.SolveLaws.{rounds-ask, hosts-ask, points-ask, solves-over, solves-on}
 use borrow.Author.Needs.{needs}
+use Rattle.format.specs.declared.refusal.Refusal.the-variants.{WorkLimit}
+use Rattle.judge.specs.declared.Judged.the-variants.{Refused}
 use Rattle.judge.proofs.solve.Statement.{statement}
 use Rattle.judge.proofs.solve.Tie as tie
 
@@ -18,8 +21,8 @@ enum-known-c c = search needs
 enum-told : tie.Need-enum-told
 enum-told c = search needs
 
-over-requires : tie.Need-over-requires
-over-requires c κs = search needs
+budget-requires : tie.Need-budget-requires
+budget-requires c κs = search needs
 
 same-length : tie.Need-same-length
 same-length c = search needs
@@ -33,7 +36,7 @@ returns c =
     let b = f .before .before .before .before .before .before in
     let a = b .args in
     solves-over (now (a .sheet)) (a .script) (a .y) _ _ (b .pre .2) (a .limits) (a .budget) _ _ _ (f .fixed-points .ensures)
-    _ _ _ _ (c .before .enum-told .given .1) (c .over .ensures)
+    _ _ _ _ (c .before .enum-told .given .1) (ap (Refused WorkLimit) (c .budget .ensures))
 
 hosts-if-requires : tie.Need-hosts-if-requires
 hosts-if-requires c κs =
@@ -80,7 +83,7 @@ solve-spec =
     fixed-points-requires
     enum-known-c
     enum-told
-    over-requires
+    budget-requires
     same-length
     same-length-2
     returns

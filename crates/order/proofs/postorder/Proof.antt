@@ -21,14 +21,14 @@ enum-known-c c = search needs
 enum-told : tie.Need-enum-told
 enum-told c = search needs
 
-unordered-requires : tie.Need-unordered-requires
-unordered-requires c κs = search needs
+budget-requires : tie.Need-budget-requires
+budget-requires c κs = search needs
 
 returns : tie.Need-returns
 returns c =
     let t = c .before .enum-told .given in
     searched-over _ _ _ _ (t .0 .0) (sym (c .before .before .before .charge .ensures) ∙ t .1) _
-    (c .unordered .ensures ∙ ap (λ (x : Charged). Over (budgetOf x)) (t .1))
+    (ap Over (c .budget .ensures) ∙ ap (λ (x : Charged). Over (budgetOf x)) (t .1))
 
 start-requires : tie.Need-start-requires
 start-requires c κs = search needs
@@ -59,7 +59,7 @@ postorder-spec =
     charge-requires
     enum-known-c
     enum-told
-    unordered-requires
+    budget-requires
     returns
     start-requires
     search-requires

@@ -49,8 +49,8 @@ enum-known-c c = search needs
 enum-told : tie.Need-enum-told Inv-loop μ-loop
 enum-told c = search needs
 
-unordered-requires : tie.Need-unordered-requires Inv-loop μ-loop
-unordered-requires c κs = search needs
+budget-requires : tie.Need-budget-requires Inv-loop μ-loop
+budget-requires c κs = search needs
 
 same-length-2 : tie.Need-same-length-2 Inv-loop μ-loop
 same-length-2 c = search needs
@@ -63,7 +63,7 @@ returns-2 c =
     let t = c .before .enum-told .given in
     let r : Room (a .y) (length (l .s)) = rw (l .inv .1) (p .0) in
     going-over _ _ _ _ _ (scratch-sized _ r) _ _ _ _ (l .inv .2) (search needs) (t .0 .0) (sym (c .before .before .before .charge .ensures) ∙ t .1) _
-    (c .unordered .ensures ∙ ap (λ (x : Charged). Over (budgetOf x)) (t .1))
+    (ap Over (c .budget .ensures) ∙ ap (λ (x : Charged). Over (budgetOf x)) (t .1))
 
 advance-requires : tie.Need-advance-requires Inv-loop μ-loop
 advance-requires c κs =
@@ -115,7 +115,7 @@ search-spec =
     charge-requires
     enum-known-c
     enum-told
-    unordered-requires
+    budget-requires
     same-length-2
     returns-2
     advance-requires

@@ -3,9 +3,11 @@ use Rattle.rooms.proofs.RoomLaws.{counted-over, counted-on, first-charg
 use Rattle.leaders.proofs.IndexLaws.{first-marked}
 use Rattle.leaders.proofs.BlockLaws.{blocks-are}
 use denote.Ref.{now}
-use mathlib.Core.Path.{_∙_}
+use mathlib.Core.Path.{_∙_, ap}
 use native.Mathlib.Omega.{arith}
 use borrow.Author.Needs.{needs}
+use Rattle.format.specs.declared.refusal.Refusal.the-variants.{WorkLimit}
+use Rattle.rooms.specs.declared.Staged.the-variants.{Refused}
 use Rattle.rooms.proofs.count.Statement.{statement}
 use Rattle.rooms.proofs.count.Tie as tie
 
@@ -19,8 +21,8 @@ enum-known-c c = search needs
 enum-told : tie.Need-enum-told
 enum-told c = search needs
 
-over-requires : tie.Need-over-requires
-over-requires c κs = search needs
+budget-requires : tie.Need-budget-requires
+budget-requires c κs = search needs
 
 same-length : tie.Need-same-length
 same-length c = search needs
@@ -30,7 +32,7 @@ returns c =
     let a = c .before .before .before .before .before .before .before .before .before .args in
     let h = c .before .before .before .before .before .before .before .before .before .pre .0 in
     let g = c .before .before .before .before .before .leaders .ensures in
-    counted-over (now (a .sheet)) (a .script) (a .limits) (a .lent) (a .budget) _ _ _ _ _ (g .charges ∙ first-charges (now (a .sheet)) (a .script) h (a .limits) (a .budget)) (c .before .enum-told .given .1) (c .over .ensures)
+    counted-over (now (a .sheet)) (a .script) (a .limits) (a .lent) (a .budget) _ _ _ _ _ (g .charges ∙ first-charges (now (a .sheet)) (a .script) h (a .limits) (a .budget)) (c .before .enum-told .given .1) (ap (Refused WorkLimit) (c .budget .ensures))
 
 number-blocks-requires : tie.Need-number-blocks-requires
 number-blocks-requires c κs =
@@ -68,7 +70,7 @@ count-spec =
     leaders-requires
     enum-known-c
     enum-told
-    over-requires
+    budget-requires
     same-length
     returns
     number-blocks-requires

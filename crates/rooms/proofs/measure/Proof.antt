@@ -1,7 +1,10 @@
 -- `rooms::measure` meets its contract. Assumes nothing.
+use mathlib.Core.Path.{ap}
 use Rattle.rooms.proofs.RoomLaws.{measured-over, measured-on}
 use denote.Ref.{now}
 use borrow.Author.Needs.{needs}
+use Rattle.format.specs.declared.refusal.Refusal.the-variants.{WorkLimit}
+use Rattle.rooms.specs.declared.Staged.the-variants.{Refused}
 use Rattle.rooms.proofs.measure.Statement.{statement}
 use Rattle.rooms.proofs.measure.Tie as tie
 
@@ -14,13 +17,13 @@ enum-known-c c = search needs
 enum-told : tie.Need-enum-told
 enum-told c = search needs
 
-over-requires : tie.Need-over-requires
-over-requires c κs = search needs
+budget-requires : tie.Need-budget-requires
+budget-requires c κs = search needs
 
 returns : tie.Need-returns
 returns c =
     let a = c .before .before .before .before .before .before .args in
-    measured-over (now (a .sheet)) (a .script) (a .limits) (a .lent) (a .budget) _ _ _ _ _ (c .before .before .before .charge .ensures) (c .before .enum-told .given .1) (c .over .ensures)
+    measured-over (now (a .sheet)) (a .script) (a .limits) (a .lent) (a .budget) _ _ _ _ _ (c .before .before .before .charge .ensures) (c .before .enum-told .given .1) (ap (Refused WorkLimit) (c .budget .ensures))
 
 count-requires : tie.Need-count-requires
 count-requires c κs = search needs
@@ -40,7 +43,7 @@ measure-spec =
     charge-requires
     enum-known-c
     enum-told
-    over-requires
+    budget-requires
     returns
     count-requires
     same-length

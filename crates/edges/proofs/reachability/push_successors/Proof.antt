@@ -1,6 +1,6 @@
 -- `edges::reachability::push_successors` meets its contract. Assumes nothing.
 use mathlib.Core.List.{List}
-use mathlib.Core.Path.{_≡_, refl, sym, _∙_}
+use mathlib.Core.Path.{_≡_, refl, sym, _∙_, ap}
 use Prim.Native.Nat.{ℕ, _-_, _≤_}
 use native.Mathlib.Omega.{arith}
 use lib.ListN.{length, replicate}
@@ -15,6 +15,7 @@ use Rattle.budget.proofs.BudgetLaws.{charged-none, ones-more}
 use Rattle.edges.proofs.StackLaws.{search-none, search-more}
 use Rattle.edges.proofs.SweepLaws.{Adding, adding-none, adding-more, successor-at, advanced-over, advanced-all}
 use Rattle.memory.proofs.ScratchLaws.{place-blocks, place-edges}
+use Rattle.edges.specs.declared.reachability.Pushed.the-variants.{Over}
 use Rattle.edges.proofs.reachability.push_successors.Statement.{statement}
 use Rattle.edges.proofs.reachability.push_successors.Tie as tie
 
@@ -44,8 +45,8 @@ enum-known-c c = search needs
 enum-told : tie.Need-enum-told Inv-loop μ-loop
 enum-told c = search needs
 
-over-requires : tie.Need-over-requires Inv-loop μ-loop
-over-requires c κs = search needs
+budget-requires : tie.Need-budget-requires Inv-loop μ-loop
+budget-requires c κs = search needs
 
 same-length : tie.Need-same-length Inv-loop μ-loop
 same-length c =
@@ -59,9 +60,8 @@ returns c =
     let loop-test = c .before .before .before .before .loop-test in
     let charge = c .before .before .before .charge in
     let enum-told = c .before .enum-told in
-    let over = c .over in
     advanced-over (pre .1) (get .ensures) (l .inv .3) (l .inv .2) (loop-test .taken) (charge .ensures) (enum-told .given .1)
-    (over .ensures)
+    (ap Over (c .budget .ensures))
 
 mul-get : tie.Need-mul-get Inv-loop μ-loop
 mul-get c = search needs
@@ -146,7 +146,7 @@ push-successors-spec =
     charge-requires
     enum-known-c
     enum-told
-    over-requires
+    budget-requires
     same-length
     returns
     mul-get

@@ -1,5 +1,5 @@
 -- `points::awaits::charge_back` meets its contract: what the charges have come to at pc. Assumes nothing.
-use mathlib.Core.Path.{_≡_}
+use mathlib.Core.Path.{_≡_, ap}
 use Prim.Native.Nat.{_-_, _≤_}
 use native.Mathlib.Omega.{arith}
 use denote.Ref.{now}
@@ -10,6 +10,8 @@ use Rattle.memory.proofs.ScratchLaws.{place-instructions}
 use Rattle.verdict.specs.Points.{on}
 use Rattle.points.proofs.ChargeLaws.{backFrom, back-none, back-more, back-over, back-passed}
 use borrow.Author.Needs.{needs}
+use Rattle.format.specs.declared.refusal.Refusal.the-variants.{WorkLimit}
+use Rattle.points.specs.declared.awaits.Points.the-variants.{Refused}
 use Rattle.points.proofs.awaits.charge_back.Statement.{statement}
 use Rattle.points.proofs.awaits.charge_back.Tie as tie
 
@@ -44,8 +46,8 @@ enum-known-c c = search needs
 enum-told : tie.Need-enum-told Inv-loop μ-loop
 enum-told c = search needs
 
-over-requires : tie.Need-over-requires Inv-loop μ-loop
-over-requires c κs = search needs
+budget-requires : tie.Need-budget-requires Inv-loop μ-loop
+budget-requires c κs = search needs
 
 returns : tie.Need-returns Inv-loop μ-loop
 returns c =
@@ -55,7 +57,7 @@ returns c =
     let args = paid .before .before .before .before .before .args in
     back-over (scratch (args .y) (now (args .s))) (args .limits) (args .budget) (args .start) (args .end) (args .place) (loop .pc) (loop .left)
     (loop .inv .2) (loop .pc - 1) (omega (arith, test .taken)) (loop .inv .1) _ (paid .before .get .ensures) _ (paid .charge .ensures)
-    (omega (arith, test .taken)) _ (c .before .enum-told .given .1) _ (c .over .ensures)
+    (omega (arith, test .taken)) _ (c .before .enum-told .given .1) _ (ap (Refused WorkLimit) (c .budget .ensures))
 
 loop-less : tie.Need-loop-less Inv-loop μ-loop
 loop-less c = omega (arith, c .before .before .before .before .before .loop-test .taken)
@@ -92,7 +94,7 @@ charge-back-spec =
     charge-requires
     enum-known-c
     enum-told
-    over-requires
+    budget-requires
     returns
     loop-less
     loop-again

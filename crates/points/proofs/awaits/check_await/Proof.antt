@@ -1,11 +1,13 @@
 -- `points::awaits::check_await` meets its contract: a law for each way out. Assumes nothing.
-use mathlib.Core.Path.{refl}
+use mathlib.Core.Path.{refl, ap}
 use Prim.Native.Nat.{_+_}
 use denote.Ref.{now}
 use Rattle.memory.specs.Scratch.{scratch}
 use Rattle.memory.specs.Sets.{sets}
 use Rattle.points.proofs.AwaitLaws.{await-over, await-host, await-facts, await-passed}
 use borrow.Author.Needs.{needs}
+use Rattle.format.specs.declared.refusal.Refusal.the-variants.{WorkLimit, FactsLimit}
+use Rattle.points.specs.declared.awaits.Points.the-variants.{Refused}
 use Rattle.points.proofs.awaits.check_await.Statement.{statement}
 use Rattle.points.proofs.awaits.check_await.Tie as tie
 
@@ -18,14 +20,14 @@ enum-known-c c = search needs
 enum-told : tie.Need-enum-told
 enum-told c = search needs
 
-over-requires : tie.Need-over-requires
-over-requires c κs = search needs
+budget-requires : tie.Need-budget-requires
+budget-requires c κs = search needs
 
 returns : tie.Need-returns
 returns c =
     let a = c .before .before .before .before .before .before .args in
     await-over (a .y) (a .limits) (a .slots) (a .budget) (a .pc) (a .place + 1) (scratch (a .y) (now (a .s))) (sets (a .y) (now (a .t))) _ (c .before .before .before .charge .ensures) _ _
-    (c .before .enum-told .given .1) (c .over .ensures)
+    (c .before .enum-told .given .1) (ap (Refused WorkLimit) (c .budget .ensures))
 
 hosts-requires : tie.Need-hosts-requires
 hosts-requires c κs = search needs
@@ -54,15 +56,15 @@ enum-known-k c = search needs
 enum-told-2 : tie.Need-enum-told-2
 enum-told-2 c = search needs
 
-facts-requires : tie.Need-facts-requires
-facts-requires c κs = search needs
+budget-requires-2 : tie.Need-budget-requires-2
+budget-requires-2 c κs = search needs
 
 returns-3 : tie.Need-returns-3
 returns-3 c =
     let a = c .before .before .before .before .before .before .before .before .before .before .before .before .before .before .before .args in
     await-facts (a .y) (a .limits) (a .slots) (a .budget) (a .pc) (a .place + 1) (scratch (a .y) (now (a .s))) (sets (a .y) (now (a .t))) _ (c .before .before .before .before .before .before .before .before .before .before .before .before .charge .ensures) _
     (c .before .before .before .before .before .before .before .before .before .before .c .given .1) _ _ (c .before .before .before .before .before .before .before .before .hosts .ensures) (c .before .before .before .before .before .before .before .live-state .ensures) _ (c .before .before .before .before .before .before .common .ensures) (c .before .before .before .before .before .if1 .left) _ (c .before .before .before .before .facts-bytes .ensures) _ (c .before .before .before .retain .ensures) _ _
-    (c .before .enum-told2 .given .1) (c .facts .ensures)
+    (c .before .enum-told2 .given .1) (ap (Refused FactsLimit) (c .budget2 .ensures))
 
 mul-put-await : tie.Need-mul-put-await
 mul-put-await c = search needs
@@ -93,7 +95,7 @@ check-await-spec =
     charge-requires
     enum-known-c
     enum-told
-    over-requires
+    budget-requires
     returns
     hosts-requires
     live-state-requires
@@ -103,7 +105,7 @@ check-await-spec =
     retain-requires
     enum-known-k
     enum-told-2
-    facts-requires
+    budget-requires-2
     returns-3
     mul-put-await
     add-put-await

@@ -11,6 +11,8 @@ use Rattle.memory.proofs.ScratchLaws.{scratch-length, row-length, row-words, pl
 use Rattle.points.proofs.ReadLaws.{noted-cost, noted-stands, noted-read}
 use Rattle.points.proofs.InstructionLaws.{instruction-over, instruction-met}
 use borrow.Author.Needs.{needs}
+use Rattle.format.specs.declared.refusal.Refusal.the-variants.{WorkLimit}
+use Rattle.points.specs.declared.awaits.Points.the-variants.{Refused}
 use Rattle.points.proofs.awaits.check_instruction.Statement.{statement}
 use Rattle.points.proofs.awaits.check_instruction.Tie as tie
 
@@ -32,8 +34,8 @@ enum-known-c c = search needs
 enum-told : tie.Need-enum-told
 enum-told c = search needs
 
-over-requires : tie.Need-over-requires
-over-requires c κs = search needs
+budget-requires : tie.Need-budget-requires
+budget-requires c κs = search needs
 
 same-length : tie.Need-same-length
 same-length c = search needs
@@ -46,7 +48,7 @@ returns c =
     let paid = noted-cost (pre .2) (args .pc) (pre .3) (c .before .before .before .before .get .ensures) in
     instruction-over (now (args .sheet)) (args .script) (args .y) (args .limits) (args .budget) (args .pc) (args .place) m
     (sets (args .y) (now (args .t))) (pre .2) _ paid _ (c .before .before .before .charge .ensures) _ _ (c .before .enum-told .given .1)
-    (c .over .ensures)
+    (ap (Refused WorkLimit) (c .budget .ensures))
 
 get-requires-2 : tie.Need-get-requires-2
 get-requires-2 c κs =
@@ -154,7 +156,7 @@ check-instruction-spec =
     charge-requires
     enum-known-c
     enum-told
-    over-requires
+    budget-requires
     same-length
     returns
     get-requires-2

@@ -1,5 +1,5 @@
 -- `points::reads::charge_reads` meets its contract: what the charges have come to at pc. Assumes nothing.
-use mathlib.Core.Path.{refl}
+use mathlib.Core.Path.{refl, ap}
 use Prim.Native.Nat.{_-_, _≤_, _<_}
 use native.Mathlib.Omega.{arith}
 use Rattle.memory.proofs.ScratchLaws.{place-instructions}
@@ -8,6 +8,7 @@ use Rattle.sheet.specs.Decode.{partsOf}
 use Rattle.points.proofs.ReadLaws.{noted-cost, noted-stands, noted-read, counted-once}
 use Rattle.points.proofs.FrontLaws.{Charging, charging-none, charging-more, charges-made, charges-over}
 use borrow.Author.Needs.{needs}
+use Rattle.points.specs.declared.reads.Reads.the-variants.{Over}
 use Rattle.points.proofs.reads.charge_reads.Statement.{statement}
 use Rattle.points.proofs.reads.charge_reads.Tie as tie
 
@@ -35,8 +36,8 @@ enum-known-paid c = search needs
 enum-told : tie.Need-enum-told Inv-loop μ-loop
 enum-told c = search needs
 
-over-requires : tie.Need-over-requires Inv-loop μ-loop
-over-requires c κs = search needs
+budget-requires : tie.Need-budget-requires Inv-loop μ-loop
+budget-requires c κs = search needs
 
 returns : tie.Need-returns Inv-loop μ-loop
 returns c =
@@ -46,7 +47,7 @@ returns c =
     let e = t .before .before .before .before in
     let a = e .args in
     let inside : loop .pc < a .y .instructions = omega (arith, t .loop-test .taken, e .pre .3) in
-    charges-over (loop .inv .2) (t .loop-test .taken) (noted-cost (e .pre .1) (loop .pc) inside (paid .before .get .ensures)) (paid .charge .ensures) (c .before .enum-told .given .1) (c .over .ensures)
+    charges-over (loop .inv .2) (t .loop-test .taken) (noted-cost (e .pre .1) (loop .pc) inside (paid .before .get .ensures)) (paid .charge .ensures) (c .before .enum-told .given .1) (ap Over (c .budget .ensures))
 
 get-requires-2 : tie.Need-get-requires-2 Inv-loop μ-loop
 get-requires-2 c κs =
@@ -108,7 +109,7 @@ charge-reads-spec =
     charge-requires
     enum-known-paid
     enum-told
-    over-requires
+    budget-requires
     returns
     get-requires-2
     instruction-at-requires

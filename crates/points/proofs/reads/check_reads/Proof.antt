@@ -20,6 +20,7 @@ use Rattle.blocks.proofs.OperandLaws.{inputs-few}
 use Rattle.points.proofs.ReadLaws.{Reading, reading-none, reading-more, reads-filled, reads-over, reads-unfilled}
 use Rattle.points.proofs.ReadLaws.{reading-coded, noted-cost, noted-stands, noted-read, counted-once}
 use borrow.Author.Needs.{needs}
+use Rattle.points.specs.declared.reads.Reads.the-variants.{Over}
 use Rattle.points.proofs.reads.check_reads.Statement.{statement}
 use Rattle.points.proofs.reads.check_reads.Tie as tie
 
@@ -68,8 +69,8 @@ enum-known-c c = search needs
 enum-told : tie.Need-enum-told Inv-loop μ-loop Inv-block μ-block
 enum-told c = search needs
 
-over-requires : tie.Need-over-requires Inv-loop μ-loop Inv-block μ-block
-over-requires c κs = search needs
+budget-requires : tie.Need-budget-requires Inv-loop μ-loop Inv-block μ-block
+budget-requires c κs = search needs
 
 same-length : tie.Need-same-length Inv-loop μ-loop Inv-block μ-block
 same-length c = search needs
@@ -82,10 +83,9 @@ returns c =
     let cost = c .before .before .before .before .get in
     let charge = c .before .before .before .charge in
     let told = c .before .enum-told in
-    let over = c .over in
     let coded = reading-coded (pre .1) (block .inv .3) in
     let paid = noted-cost coded (block .pc) (omega (arith, test .taken, pre .3)) (cost .ensures) in
-    reads-over (block .inv .3) (test .taken) paid (charge .ensures) (told .given .1) (over .ensures)
+    reads-over (block .inv .3) (test .taken) paid (charge .ensures) (told .given .1) (ap Over (c .budget .ensures))
 
 get-requires-2 : tie.Need-get-requires-2 Inv-loop μ-loop Inv-block μ-block
 get-requires-2 c κs =
@@ -306,7 +306,7 @@ check-reads-spec =
     charge-requires
     enum-known-c
     enum-told
-    over-requires
+    budget-requires
     same-length
     returns
     get-requires-2

@@ -48,8 +48,8 @@ enum-known-c c = search needs
 enum-told : tie.Need-enum-told Inv-loop μ-loop
 enum-told c = search needs
 
-stopped-requires : tie.Need-stopped-requires Inv-loop μ-loop
-stopped-requires c κs = search needs
+budget-requires : tie.Need-budget-requires Inv-loop μ-loop
+budget-requires c κs = search needs
 
 same-length : tie.Need-same-length Inv-loop μ-loop
 same-length c = search needs
@@ -65,7 +65,7 @@ returns c =
     let charge = c .before .before .before .charge in
     let t = c .before .enum-told .given in
     telling-over (l .inv .2) (a .d) (a .block) (dependents .ensures) (count .ensures) (first .ensures) (loop-test .taken)
-    (sym (charge .ensures) ∙ t .1) (c .stopped .ensures ∙ ap (λ (x : Charged). Stop (budgetOf x)) (t .1))
+    (sym (charge .ensures) ∙ t .1) (ap Stop (c .budget .ensures) ∙ ap (λ (x : Charged). Stop (budgetOf x)) (t .1))
 
 end-requires : tie.Need-end-requires Inv-loop μ-loop
 end-requires c κs =
@@ -142,7 +142,7 @@ tell-spec =
     charge-requires
     enum-known-c
     enum-told
-    stopped-requires
+    budget-requires
     same-length
     returns
     end-requires

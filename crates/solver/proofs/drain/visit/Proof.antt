@@ -54,8 +54,8 @@ enum-known-c c = search needs
 enum-told : tie.Need-enum-told
 enum-told c = search needs
 
-stopped-requires : tie.Need-stopped-requires
-stopped-requires c κs = search needs
+budget-requires : tie.Need-budget-requires
+budget-requires c κs = search needs
 
 same-length : tie.Need-same-length
 same-length c = search needs
@@ -68,8 +68,10 @@ returns c =
     let charge-visit = c .before .before .before .charge-visit in
     let y = a .y in
     let t = c .before .enum-told .given in
-    stops y (a .limits) (a .budget .work + 1) _ _ (c .stopped .ensures ∙ ap (λ (x : Charged). Stop (budgetOf x)) (t .1))
-    (visited-over (a .d) y (a .limits) (scratch y (now (a .s))) (sets y (now (a .t))) (a .from) (a .budget) (get .ensures) (put .ensures)
+    let m = scratch y (now (a .s)) in
+    let ts = sets y (now (a .t)) in
+    stops y (a .limits) (a .budget .work + 1) m ts (ap Stop (c .budget .ensures) ∙ ap (λ (x : Charged). Stop (budgetOf x)) (t .1))
+    (visited-over (a .d) y (a .limits) m ts (a .from) (a .budget) (get .ensures) (put .ensures)
     (sym (charge-visit .ensures) ∙ t .1))
 
 compute-requires : tie.Need-compute-requires
@@ -149,7 +151,7 @@ visit-spec =
     charge-visit-requires
     enum-known-c
     enum-told
-    stopped-requires
+    budget-requires
     same-length
     returns
     compute-requires
