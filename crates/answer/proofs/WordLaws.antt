@@ -3,14 +3,13 @@ use mathlib.Core.Path.{_≡_, refl, sym, ap, _∙_}
 use mathlib.Core.Bool.{Bool, true, false}
 use mathlib.Core.List.{List}
 use Prim.Native.Nat.{ℕ, zero, suc, _+_, _*_, _/_, _%_, _^_, _<_}
-use native.Mathlib.Decide.{decLt}
 use native.Mathlib.Nat.{pow-suc}
 use native.Mathlib.Omega.{arith}
-use lib.Dec.{eqb, lit<}
-use lib.ListN.{length, getD, List·getD-eq-default}
+use lib.Dec.{eqb}
+use lib.ListN.{length, getD}
 use Rattle.bitset.specs.Sets.{digit, member, Words}
 use Rattle.bitset.proofs.Digits.{bit, digit-next}
-use Rattle.bitset.proofs.SetLaws.{same-exact}
+use Rattle.bitset.proofs.SetLaws.{same-exact, words-each}
 use Rattle.answer.specs.Words.{one, numberOf, wordsFrom, wordsOf, Means}
 
 -- ---- a truth value as a digit
@@ -34,7 +33,7 @@ digit-first b m h = omega arith
 
 -- the digits before it are those of half of the number
 digit-later : (b m j : ℕ) → b < 2 → digit (b + 2 * m) (suc j) ≡ digit m j
-digit-later b m j h = digit-next (b + 2 * m) j ∙ ap (λ (x : ℕ). digit x j) (let e : (b + 2 * m) / 2 ≡ m = omega arith in e)
+digit-later b m j h = digit-next (b + 2 * m) j ∙ ap (λ (x : ℕ). digit x j) (omega arith)
 
 module _ (f : ℕ → Bool) where
   -- a number of n bits is below 2 ^ n
@@ -72,11 +71,7 @@ module _ (f : ℕ → Bool) where
 
   -- each fits 64 bits
   pub words-of : (w : ℕ) → Words w (wordsOf w f)
-  words-of w = record { long = words-long 0 w; fits = λ k. go k (decLt k w) }
-    where
-      go : (k : ℕ) → Dec (k < w) → getD (wordsOf w f) k 0 < 2 ^ 64
-      go k (yes lt) = rw (words-at 0 w k lt) (number-below (64 * (0 + k)) 64)
-      go k (no nl) = rw (List·getD-eq-default (wordsOf w f) 0 {n = k} (omega (arith, words-long 0 w))) (lit< tt)
+  words-of w = words-each w (wordsOf w f) (words-long 0 w) (λ k lt. rw (words-at 0 w k lt) (number-below (64 * (0 + k)) 64))
 
   -- they stand for the set
   pub wordsOf-means : (w : ℕ) → Means w (wordsOf w f) f

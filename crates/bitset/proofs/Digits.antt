@@ -169,25 +169,6 @@ tested w i h =
     (ap (λ (x : ℕ). not (eqb x 0)) (one-mul (2 ^ i)) ∙ ap not (ne-eqb (2 ^ i) 0 (λ e. omega (arith, pow-pos i))))
     (digit w i) (digit-lt w i)
 
--- an OR with an XOR is 0 exactly if it was 0 and the two numbers are equal
-pub differs : (d x y : ℕ) → eqb (bitOr d (bitXor x y)) 0 ≡ (eqb d 0 && eqb x y)
-differs d x y = go (ℕ-discrete d 0) (ℕ-discrete x y)
-  where
-    z : ℕ
-    z = bitXor x y
-
-    unequal : ((d ≡ 0) → x ≡ y → ⊥) → bitOr d z ≡ 0 → ⊥
-    unequal h e =
-        h (omega (arith, or-add-and d z, and-le-r d z))
-        (omega (arith, or-add-and d z, and-le-l d z, xor-add-and x y, and-le-l x y, and-le-r x y))
-
-    go : Dec (d ≡ 0) → Dec (x ≡ y) → eqb (bitOr d z) 0 ≡ (eqb d 0 && eqb x y)
-    go (yes p) (yes q) =
-        ap (λ (n : ℕ). eqb n 0) (ap₂ bitOr p (ap (λ (n : ℕ). bitXor n y) q ∙ xor-self y) ∙ or-self 0)
-        ∙ sym (ap₂ _&&_ (eq-eqb d 0 p) (eq-eqb x y q))
-    go (yes p) (no q) = ne-eqb (bitOr d z) 0 (unequal (λ _. q)) ∙ sym (ap₂ _&&_ (eq-eqb d 0 p) (ne-eqb x y q))
-    go (no p) q = ne-eqb (bitOr d z) 0 (unequal (λ e _. p e)) ∙ sym (ap (λ (t : Bool). t && eqb x y) (ne-eqb d 0 p))
-
 -- an OR is 0 exactly if both numbers are
 pub or-zero : (d z : ℕ) → eqb (bitOr d z) 0 ≡ (eqb d 0 && eqb z 0)
 or-zero d z = go (ℕ-discrete d 0) (ℕ-discrete z 0)
@@ -199,3 +180,12 @@ or-zero d z = go (ℕ-discrete d 0) (ℕ-discrete z 0)
     go (yes p) (yes q) = ap (λ (n : ℕ). eqb n 0) (ap₂ bitOr p q ∙ or-self 0) ∙ sym (ap₂ _&&_ (eq-eqb d 0 p) (eq-eqb z 0 q))
     go (yes p) (no q) = ne-eqb (bitOr d z) 0 (unequal (λ _. q)) ∙ sym (ap₂ _&&_ (eq-eqb d 0 p) (ne-eqb z 0 q))
     go (no p) q = ne-eqb (bitOr d z) 0 (unequal (λ e _. p e)) ∙ sym (ap (λ (t : Bool). t && eqb z 0) (ne-eqb d 0 p))
+
+-- an XOR is 0 exactly if the two numbers are equal
+pub xor-zero : (x y : ℕ) → eqb (bitXor x y) 0 ≡ eqb x y
+xor-zero x y = go (ℕ-discrete x y)
+  where
+    go : Dec (x ≡ y) → eqb (bitXor x y) 0 ≡ eqb x y
+    go (yes q) = eq-eqb (bitXor x y) 0 (ap (λ (n : ℕ). bitXor n y) q ∙ xor-self y) ∙ sym (eq-eqb x y q)
+    go (no q) =
+        ne-eqb (bitXor x y) 0 (λ e. q (omega (arith, xor-add-and x y, and-le-l x y, and-le-r x y))) ∙ sym (ne-eqb x y q)

@@ -1,4 +1,4 @@
--- The loops: one that stores f of two words at each place of a row, from the front, and two that compare two rows. Assumes nothing.
+-- The loops: one that stores f of two words at each place of a row, from the front, and one that compares two rows. Assumes nothing.
 use mathlib.Core.Logic.{inl, inr}
 use mathlib.Core.Path.{_≡_, refl, sym, ap, ap₂, _∙_}
 use mathlib.Core.Bool.{Bool, true, false, not, _&&_, _||_, and-true, and-assoc, or-false, or-assoc}
@@ -12,7 +12,7 @@ use lib.ListN.{length, take, drop, getD, set, replicate, length-set, length-drop
 use lib.Seq.{take-all, take-suc, length-take-le, getD-drop, paste, paste-zero, paste-suc}
 use Rattle.bitset.specs.Sets.{ones, zipped, meet, join, difference, same, common, within}
 use Rattle.bitset.specs.Rows.{row, patched, Apart}
-use Rattle.bitset.proofs.Digits.{differs, or-zero}
+use Rattle.bitset.proofs.Digits.{or-zero, xor-zero}
 use Rattle.bitset.proofs.SetLaws.{length-zipped, getD-zipped}
 use Rattle.bitset.proofs.RowLaws.{length-row, getD-row, patched-before, patched-after}
 
@@ -138,6 +138,46 @@ module _ (l : List ℕ) (d i j w : ℕ) (h : d + w ≤ length l) where
       ∙ sym (word-replaced k turn) ∙ ap (λ (m : ℕ). getD (replaced l d i j w) m 0) (omega arith))
 
 -- ---- a loop that compares
+row-more : (l : List ℕ) (base k : ℕ) → base + k < length l → row l base (k + 1) ≡ row l base k ++ (getD l (base + k) 0 ∷ [])
+unfolding row
+row-more l base k h =
+    ap (λ (n : ℕ). take n (drop base l)) (add-one k) ∙ take-suc (drop base l) k 0 (simp length-drop (omega arith))
+    ∙ ap (λ (v : ℕ). take k (drop base l) ++ (v ∷ [])) (getD-drop base l k 0)
+
+-- a test g of two rows, told by `told` of one number: an OR of h of the two words at each place
+pub record Tells (g : List ℕ → List ℕ → Bool) (told : ℕ → Bool) (h : ℕ → ℕ → ℕ) : Type 0 where
+  pub none : told 0 ≡ g [] []
+  pub more : (xs ys : List ℕ) (d x y : ℕ) → length xs ≡ length ys → told d ≡ g xs ys
+      → told (bitOr d (h x y)) ≡ g (xs ++ x ∷ []) (ys ++ y ∷ [])
+
+-- after k turns of w the number d tells the test of the words so far
+pub record Compared (g : List ℕ → List ℕ → Bool) (told : ℕ → Bool) (a : List ℕ) (i : ℕ) (b : List ℕ) (j w k d : ℕ) : Type 0 where
+  pub below : k ≤ w
+  pub is : told d ≡ g (row a i k) (row b j k)
+
+module _ {g : List ℕ → List ℕ → Bool} {told : ℕ → Bool} {h : ℕ → ℕ → ℕ} (tells : Tells g told h)
+    {a : List ℕ} {i : ℕ} {b : List ℕ} {j w : ℕ} where
+  pub compared-none : Compared g told a i b j w 0 0
+  unfolding row
+  compared-none = record { below = omega arith; is = tells .none }
+
+  module _ {k d : ℕ} (compared : Compared g told a i b j w k d) where
+    pub compared-more : i + w ≤ length a → j + w ≤ length b → k < w
+        → Compared g told a i b j w (k + 1) (bitOr d (h (getD a (i + k) 0) (getD b (j + k) 0)))
+    compared-more ha hb turn = record {
+      below = omega arith;
+      is =
+          tells .more (row a i k) (row b j k) d (getD a (i + k) 0) (getD b (j + k) 0)
+          (length-row a i k (omega arith) ∙ sym (length-row b j k (omega arith))) (compared .is)
+          ∙ sym (ap₂ g (row-more a i k (omega arith)) (row-more b j k (omega arith)));
+    }
+
+    pub compared-all : w ≤ k → told d ≡ g (row a i w) (row b j w)
+    compared-all l =
+        let e : k ≡ w = omega (arith, compared .below) in
+        compared .is ∙ ap (λ (n : ℕ). g (row a i n) (row b j n)) e
+
+-- ---- whether the rows are the same: the OR of the XORs is 0
 same-snoc : (xs ys : List ℕ) (x y : ℕ) → length xs ≡ length ys → same (xs ++ x ∷ []) (ys ++ y ∷ []) ≡ (same xs ys && eqb x y)
 unfolding same
 same-snoc [] [] x y h = and-true (eqb x y)
@@ -146,41 +186,14 @@ same-snoc (a ∷ xs) [] x y h = absurd (omega arith)
 same-snoc (a ∷ xs) (b ∷ ys) x y h =
     ap (λ (t : Bool). eqb a b && t) (same-snoc xs ys x y (omega arith)) ∙ sym (and-assoc (eqb a b) (same xs ys) (eqb x y))
 
-row-more : (l : List ℕ) (base k : ℕ) → base + k < length l → row l base (k + 1) ≡ row l base k ++ (getD l (base + k) 0 ∷ [])
-unfolding row
-row-more l base k h =
-    ap (λ (n : ℕ). take n (drop base l)) (add-one k) ∙ take-suc (drop base l) k 0 (simp length-drop (omega arith))
-    ∙ ap (λ (v : ℕ). take k (drop base l) ++ (v ∷ [])) (getD-drop base l k 0)
+pub tells-same : Tells same (λ d. eqb d 0) bitXor
+unfolding same
+tells-same = record {
+  none = refl;
+  more = λ xs ys d x y l e. or-zero d (bitXor x y) ∙ ap₂ _&&_ e (xor-zero x y) ∙ sym (same-snoc xs ys x y l);
+}
 
--- after k turns of w: the OR of the differences is 0 exactly if the words so far are the same
-pub record Compared (a : List ℕ) (i : ℕ) (b : List ℕ) (j w k differ : ℕ) : Type 0 where
-  pub below : k ≤ w
-  pub is : eqb differ 0 ≡ same (row a i k) (row b j k)
-
-pub compared-none : {a : List ℕ} {i : ℕ} {b : List ℕ} {j w : ℕ} → Compared a i b j w 0 0
-unfolding same row
-compared-none = record { below = omega arith; is = refl }
-
-module _ {a : List ℕ} {i : ℕ} {b : List ℕ} {j w k differ : ℕ} (compared : Compared a i b j w k differ) where
-  pub compared-more : i + w ≤ length a → j + w ≤ length b → k < w
-      → Compared a i b j w (k + 1) (bitOr differ (bitXor (getD a (i + k) 0) (getD b (j + k) 0)))
-  compared-more ha hb turn =
-      let x : ℕ = getD a (i + k) 0 in
-      let y : ℕ = getD b (j + k) 0 in
-      record {
-        below = omega arith;
-        is =
-            differs differ x y ∙ ap (λ (t : Bool). t && eqb x y) (compared .is)
-            ∙ sym (ap₂ same (row-more a i k (omega arith)) (row-more b j k (omega arith))
-            ∙ same-snoc (row a i k) (row b j k) x y (length-row a i k (omega arith) ∙ sym (length-row b j k (omega arith))));
-      }
-
-  pub compared-all : w ≤ k → eqb differ 0 ≡ same (row a i w) (row b j w)
-  compared-all h =
-      let e : k ≡ w = omega (arith, compared .below) in
-      compared .is ∙ ap (λ (n : ℕ). same (row a i n) (row b j n)) e
-
--- ---- a loop that looks for a common slot
+-- ---- whether they have a slot in common: the OR of the ANDs is not 0
 common-snoc : (xs ys : List ℕ) (x y : ℕ) → length xs ≡ length ys
     → common (xs ++ x ∷ []) (ys ++ y ∷ []) ≡ (common xs ys || not (eqb (bitAnd x y) 0))
 unfolding common
@@ -195,36 +208,15 @@ not-and : (a b : Bool) → not (a && b) ≡ (not a || not b)
 not-and true b = refl
 not-and false b = refl
 
--- after k turns of w: the OR of the ANDs is not 0 exactly if the words so far have a slot in common
-pub record Shared (a : List ℕ) (i j w k both : ℕ) : Type 0 where
-  pub below : k ≤ w
-  pub is : not (eqb both 0) ≡ common (row a i k) (row a j k)
+pub tells-common : Tells common (λ d. not (eqb d 0)) bitAnd
+unfolding common
+tells-common = record {
+  none = refl;
+  more = λ xs ys d x y l e. ap not (or-zero d (bitAnd x y)) ∙ not-and (eqb d 0) (eqb (bitAnd x y) 0)
+      ∙ ap (λ (t : Bool). t || not (eqb (bitAnd x y) 0)) e ∙ sym (common-snoc xs ys x y l);
+}
 
-pub shared-none : {a : List ℕ} {i j w : ℕ} → Shared a i j w 0 0
-unfolding common row
-shared-none = record { below = omega arith; is = refl }
-
-module _ {a : List ℕ} {i j w k both : ℕ} (shared : Shared a i j w k both) where
-  pub shared-more : i + w ≤ length a → j + w ≤ length a → k < w
-      → Shared a i j w (k + 1) (bitOr both (bitAnd (getD a (i + k) 0) (getD a (j + k) 0)))
-  shared-more hi hj turn =
-      let x : ℕ = getD a (i + k) 0 in
-      let y : ℕ = getD a (j + k) 0 in
-      record {
-        below = omega arith;
-        is =
-            ap not (or-zero both (bitAnd x y)) ∙ not-and (eqb both 0) (eqb (bitAnd x y) 0)
-            ∙ ap (λ (t : Bool). t || not (eqb (bitAnd x y) 0)) (shared .is)
-            ∙ sym (ap₂ common (row-more a i k (omega arith)) (row-more a j k (omega arith))
-            ∙ common-snoc (row a i k) (row a j k) x y (length-row a i k (omega arith) ∙ sym (length-row a j k (omega arith))));
-      }
-
-  pub shared-all : w ≤ k → not (eqb both 0) ≡ common (row a i w) (row a j w)
-  shared-all h =
-      let e : k ≡ w = omega (arith, shared .below) in
-      shared .is ∙ ap (λ (n : ℕ). common (row a i n) (row a j n)) e
-
--- ---- a loop that looks for a slot that the second row lacks
+-- ---- whether the second has all slots of the first: the OR of what each word of the first has besides is 0
 zipped-snoc : (f : ℕ → ℕ → ℕ) (xs ys : List ℕ) (x y : ℕ) → length xs ≡ length ys
     → zipped f (xs ++ x ∷ []) (ys ++ y ∷ []) ≡ zipped f xs ys ++ (f x y ∷ [])
 unfolding zipped
@@ -233,36 +225,10 @@ zipped-snoc f [] (b ∷ ys) x y h = absurd (omega arith)
 zipped-snoc f (a ∷ xs) [] x y h = absurd (omega arith)
 zipped-snoc f (a ∷ xs) (b ∷ ys) x y h = ap (λ (l : List ℕ). f a b ∷ l) (zipped-snoc f xs ys x y (omega arith))
 
-within-snoc : (xs ys : List ℕ) (x y : ℕ) → length xs ≡ length ys
-    → within (xs ++ x ∷ []) (ys ++ y ∷ []) ≡ (within xs ys && eqb (bitAnd x y) x)
-within-snoc xs ys x y h =
-    ap (λ (l : List ℕ). same l (xs ++ x ∷ [])) (zipped-snoc bitAnd xs ys x y h)
-    ∙ same-snoc (meet xs ys) xs (bitAnd x y) x (length-zipped bitAnd xs ys)
-
--- after k turns of w: what was gathered is 0 exactly if the words so far of the row at j have all slots of those of the row at i
-pub record Covered (a : List ℕ) (i j w k lacking : ℕ) : Type 0 where
-  pub below : k ≤ w
-  pub is : eqb lacking 0 ≡ within (row a i k) (row a j k)
-
-pub covered-none : {a : List ℕ} {i j w : ℕ} → Covered a i j w 0 0
-unfolding zipped same row
-covered-none = record { below = omega arith; is = refl }
-
-module _ {a : List ℕ} {i j w k lacking : ℕ} (covered : Covered a i j w k lacking) where
-  pub covered-more : i + w ≤ length a → j + w ≤ length a → k < w
-      → Covered a i j w (k + 1) (bitOr lacking (bitXor (bitAnd (getD a (i + k) 0) (getD a (j + k) 0)) (getD a (i + k) 0)))
-  covered-more hi hj turn =
-      let x : ℕ = getD a (i + k) 0 in
-      let y : ℕ = getD a (j + k) 0 in
-      record {
-        below = omega arith;
-        is =
-            differs lacking (bitAnd x y) x ∙ ap (λ (t : Bool). t && eqb (bitAnd x y) x) (covered .is)
-            ∙ sym (ap₂ within (row-more a i k (omega arith)) (row-more a j k (omega arith))
-            ∙ within-snoc (row a i k) (row a j k) x y (length-row a i k (omega arith) ∙ sym (length-row a j k (omega arith))));
-      }
-
-  pub covered-all : w ≤ k → eqb lacking 0 ≡ within (row a i w) (row a j w)
-  covered-all h =
-      let e : k ≡ w = omega (arith, covered .below) in
-      covered .is ∙ ap (λ (n : ℕ). within (row a i n) (row a j n)) e
+pub tells-within : Tells within (λ d. eqb d 0) (λ x y. bitXor (bitAnd x y) x)
+unfolding same zipped
+tells-within = record {
+  none = refl;
+  more = λ xs ys d x y l e. tells-same .more (meet xs ys) xs d (bitAnd x y) x (length-zipped bitAnd xs ys) e
+      ∙ ap (λ (m : List ℕ). same m (xs ++ x ∷ [])) (sym (zipped-snoc bitAnd xs ys x y l));
+}

@@ -1,20 +1,18 @@
 -- Rows of a slice and the slice with a row replaced, and one slot of the set that begins at a base. Assumes nothing.
 use mathlib.Core.Logic.{_⊎_, inl, inr}
-use mathlib.Core.Path.{_≡_, sym, ap, _∙_, subst}
+use mathlib.Core.Path.{_≡_, sym, ap, ap₂, _∙_, subst}
 use mathlib.Core.Bool.{not}
-use mathlib.Core.List.{List, [], _∷_, _++_}
+use mathlib.Core.List.{List, _++_}
 use Prim.Native.Nat.{ℕ, _+_, _-_, _*_, _/_, _%_, _^_, _≤_, _<_}
-use native.Mathlib.Decide.{decLt}
-use native.Mathlib.Nat.{zero-add, suc-add}
 use native.Mathlib.Omega.{arith}
 use lib.Bits.{bitAnd, bitOr}
-use lib.Dec.{eqb, lit<}
-use lib.ListN.{length, take, drop, getD, set, length-set, take-append-drop, length-append, length-take, length-drop}
-use lib.ListN.{List·getD-append, List·getD-eq-default}
-use lib.Seq.{getD-take, getD-drop, getD-append-add, ext-getD, drop-drop, set-append-left, length-take-le}
+use lib.Dec.{eqb}
+use lib.ListN.{length, take, drop, getD, set, length-set, take-append-drop, length-append, length-take, length-drop, List·getD-append}
+use lib.Seq.{getD-take, getD-drop, getD-append-add, ext-getD, drop-drop, set-append-left, length-take-le, take-set-le, drop-set-add}
 use Rattle.bitset.specs.Sets.{ones, member, inserted, removed, Words}
 use Rattle.bitset.specs.Rows.{row, patched, insertedAt, removedAt}
 use Rattle.bitset.proofs.Digits.{bit, mask, tested}
+use Rattle.bitset.proofs.SetLaws.{words-each}
 
 -- ---- a row
 pub length-row : (l : List ℕ) (base w : ℕ) → base + w ≤ length l → length (row l base w) ≡ w
@@ -78,50 +76,16 @@ module _ (l : List ℕ) (base : ℕ) (ys : List ℕ) (fits : base + length ys �
       at (inl q) i k = patched-before (b + i) (omega arith)
       at (inr q) i k = patched-after (b + i) (omega arith)
 
-  -- words that fit stay so
-  pub fits-patched : ((k : ℕ) → getD l k 0 < 2 ^ 64) → ((k : ℕ) → getD ys k 0 < 2 ^ 64) → (k : ℕ) → getD (patched l base ys) k 0 < 2 ^ 64
-  fits-patched hl hy k = go (decLt k base) (decLt k (base + length ys))
-    where
-      go : Dec (k < base) → Dec (k < base + length ys) → getD (patched l base ys) k 0 < 2 ^ 64
-      go (yes a) b = rw (patched-before k a) (hl k)
-      go (no a) (yes b) =
-          let e : k ≡ base + (k - base) = omega arith in
-          let q : getD (patched l base ys) k 0 ≡ getD ys (k - base) 0 =
-          ap (λ (m : ℕ). getD (patched l base ys) m 0) e ∙ patched-in (k - base) (omega arith) in
-          rw q (hy (k - base))
-      go (no a) (no b) = rw (patched-after k (omega arith)) (hl k)
-
 pub words-row : (l : List ℕ) (base w : ℕ) → ((k : ℕ) → getD l k 0 < 2 ^ 64) → base + w ≤ length l → Words w (row l base w)
-words-row l base w h room = record { long = length-row l base w room; fits = λ k. go k (decLt k w) }
-  where
-    go : (k : ℕ) → Dec (k < w) → getD (row l base w) k 0 < 2 ^ 64
-    go k (yes i) = rw (getD-row l base w k i) (h (base + k))
-    go k (no i) = rw (List·getD-eq-default (row l base w) 0 {n = k} (omega (arith, length-row l base w room))) (lit< tt)
-
-pub words-patched : (n : ℕ) (l : List ℕ) (base w : ℕ) (ys : List ℕ) → Words n l → Words w ys → base + w ≤ n → Words n (patched l base ys)
-words-patched n l base w ys hl hy room =
-    let fits : base + length ys ≤ length l = omega (arith, hl .long, hy .long) in
-    record { long = length-patched l base ys fits ∙ hl .long; fits = fits-patched l base ys fits (hl .fits) (hy .fits) }
+words-row l base w h room =
+    words-each w (row l base w) (length-row l base w room) (λ k i. rw (getD-row l base w k i) (h (base + k)))
 
 -- ---- stores
-set-append-add : (xs ys : List ℕ) (i v : ℕ) → set (xs ++ ys) (length xs + i) v ≡ xs ++ set ys i v
-set-append-add [] ys i v = ap (λ (n : ℕ). set ys n v) (zero-add i)
-set-append-add (x ∷ xs) ys i v =
-    ap (λ (n : ℕ). set (x ∷ (xs ++ ys)) n v) (suc-add (length xs) i) ∙ ap (λ (t : List ℕ). x ∷ t) (set-append-add xs ys i v)
-
--- a store past the first words leaves them
-set-past : (l r : List ℕ) (base i v : ℕ) → base ≤ length l → set (take base l ++ r) (base + i) v ≡ take base l ++ set r i v
-set-past l r base i v h =
-    subst (λ (b : ℕ). set (take base l ++ r) (b + i) v ≡ take base l ++ set r i v) (length-take-le base l h) (set-append-add (take base l) r i v)
-
--- a store into the row, seen from the whole
-pub set-patched : (l : List ℕ) (base : ℕ) (ys : List ℕ) (i v : ℕ) → base + length ys ≤ length l → i < length ys
-    → set (patched l base ys) (base + i) v ≡ patched l base (set ys i v)
-unfolding patched
-set-patched l base ys i v h k =
-    let r : List ℕ = drop (base + length ys) l in
-    set-past l (ys ++ r) base i v (omega arith) ∙ ap (λ (t : List ℕ). take base l ++ t) (set-append-left ys r i v k)
-    ∙ ap (λ (n : ℕ). take base l ++ (set ys i v ++ drop (base + n) l)) (sym (length-set ys i v))
+-- past the first words it is a store into the others
+set-drop : (l : List ℕ) (base i v : ℕ) → set l (base + i) v ≡ take base l ++ set (drop base l) i v
+set-drop l base i v =
+    sym (take-append-drop base (set l (base + i) v))
+    ∙ ap₂ _++_ (take-set-le base l (base + i) v (omega arith)) (drop-set-add base l i v)
 
 -- a row replaced by itself
 pub patched-self : (l : List ℕ) (base w : ℕ) → base + w ≤ length l → patched l base (row l base w) ≡ l
@@ -131,11 +95,17 @@ patched-self l base w h =
     ∙ ap (λ (t : List ℕ). take base l ++ (take w (drop base l) ++ t)) (sym (drop-drop w base l))
     ∙ ap (λ (t : List ℕ). take base l ++ t) (take-append-drop w (drop base l)) ∙ take-append-drop base l
 
+-- a store into a row
 pub set-row : (l : List ℕ) (base w i v : ℕ) → base + w ≤ length l → i < w → set l (base + i) v ≡ patched l base (set (row l base w) i v)
+unfolding patched row
 set-row l base w i v h k =
-    let q : length (row l base w) ≡ w = length-row l base w h in
-    ap (λ (t : List ℕ). set t (base + i) v) (sym (patched-self l base w h))
-    ∙ set-patched l base (row l base w) i v (omega arith) (omega arith)
+    let r : List ℕ = take w (drop base l) in
+    let q : length r ≡ w = length-row l base w h in
+    set-drop l base i v
+    ∙ ap (λ (t : List ℕ). take base l ++ set t i v) (sym (take-append-drop w (drop base l)))
+    ∙ ap (λ (t : List ℕ). take base l ++ t) (set-append-left r (drop w (drop base l)) i v (omega arith))
+    ∙ ap (λ (t : List ℕ). take base l ++ (set r i v ++ t)) (drop-drop w base l)
+    ∙ ap (λ (n : ℕ). take base l ++ (set r i v ++ drop (base + n) l)) (sym (length-set r i v ∙ q))
 
 -- ---- one slot of the set that begins at base
 pub member-row : (l : List ℕ) (base w slot : ℕ) → slot / 64 < w → member (drop base l) slot ≡ member (row l base w) slot
@@ -151,26 +121,24 @@ tested-slot l base slot =
     ∙ ap (λ (x : ℕ). bit x (slot % 64)) (sym (getD-drop base l (slot / 64) 0))
 
 -- word i from base on becomes f of itself: in the slice, and in the words from base on
-put-drop : (f : ℕ → ℕ) (l : List ℕ) (base i : ℕ) → base ≤ length l
+put-drop : (f : ℕ → ℕ) (l : List ℕ) (base i : ℕ)
     → set l (base + i) (f (getD l (base + i) 0)) ≡ take base l ++ set (drop base l) i (f (getD (drop base l) i 0))
-put-drop f l base i h =
-    ap (λ (x : ℕ). set l (base + i) (f x)) (sym (getD-drop base l i 0))
-    ∙ ap (λ (t : List ℕ). set t (base + i) (f (getD (drop base l) i 0))) (sym (take-append-drop base l))
-    ∙ set-past l (drop base l) base i (f (getD (drop base l) i 0)) h
+put-drop f l base i =
+    ap (λ (x : ℕ). set l (base + i) (f x)) (sym (getD-drop base l i 0)) ∙ set-drop l base i (f (getD (drop base l) i 0))
 
 -- the store of the code: g of the word and of the number with the slot's bit alone
-pub put-slot : (g : ℕ → ℕ → ℕ) (l : List ℕ) (base slot : ℕ) → base ≤ length l
+pub put-slot : (g : ℕ → ℕ → ℕ) (l : List ℕ) (base slot : ℕ)
     → set l (base + slot / 64) (g (getD l (base + slot / 64) 0) (1 * 2 ^ (slot % 64) % 2 ^ 64))
     ≡ take base l ++ set (drop base l) (slot / 64) (g (getD (drop base l) (slot / 64) 0) (2 ^ (slot % 64)))
-put-slot g l base slot h =
+put-slot g l base slot =
     ap (λ (m : ℕ). set l (base + slot / 64) (g (getD l (base + slot / 64) 0) m)) (mask (slot % 64) (omega arith))
-    ∙ put-drop (λ x. g x (2 ^ (slot % 64))) l base (slot / 64) h
+    ∙ put-drop (λ x. g x (2 ^ (slot % 64))) l base (slot / 64)
 
 -- word i from base on becomes f of itself, seen as a row replaced
 put-row : (f : ℕ → ℕ) (l : List ℕ) (base w i : ℕ) → base + w ≤ length l → i < w
     → take base l ++ set (drop base l) i (f (getD (drop base l) i 0)) ≡ patched l base (set (row l base w) i (f (getD (row l base w) i 0)))
 put-row f l base w i h k =
-    sym (put-drop f l base i (omega arith)) ∙ ap (λ (x : ℕ). set l (base + i) (f x)) (sym (getD-row l base w i k))
+    sym (put-drop f l base i) ∙ ap (λ (x : ℕ). set l (base + i) (f x)) (sym (getD-row l base w i k))
     ∙ set-row l base w i (f (getD (row l base w) i 0)) h k
 
 module _ (l : List ℕ) (base w slot : ℕ) (h : base + w ≤ length l) (k : slot / 64 < w) where

@@ -1,7 +1,7 @@
 -- What `member` says of each set that the contracts name, sets of equal members, and words that fit. Assumes nothing.
 use mathlib.Core.Logic.{_↔_, _⊎_, inl, inr}
 use mathlib.Core.Path.{_≡_, refl, sym, ap, ap₂, _∙_}
-use mathlib.Core.Bool.{Bool, true, false, not, _&&_, _||_, or-comm, and-comm, or-true, false≢true}
+use mathlib.Core.Bool.{Bool, true, false, not, _&&_, _||_, or-comm, and-comm, or-true, and-eq-true-iff, false≢true}
 use mathlib.Core.List.{List, [], _∷_}
 use Prim.Native.Nat.{ℕ, zero, suc, _+_, _-_, _*_, _/_, _%_, _^_, _≤_, _<_}
 use native.Mathlib.Decide.{decLt, ℕ-discrete}
@@ -148,31 +148,18 @@ member-difference xs ys i h =
     member-zipped (λ x y. bitAnd x (ones - y)) (λ a b. a && not b) xs ys i
     (bit-and x (ones - y) (i % 64) ∙ ap (λ (t : Bool). bit x (i % 64) && t) (bit-not y (i % 64) h (omega arith))) (λ _. refl)
 
--- ---- words that fit
+-- ---- words that fit: each that is there, since past the end they count as 0
+pub words-each : (w : ℕ) (ws : List ℕ) → length ws ≡ w → ((k : ℕ) → k < w → getD ws k 0 < 2 ^ 64) → Words w ws
+words-each w ws e at = record { long = e; fits = λ k. go k (decLt k w) }
+  where
+    go : (k : ℕ) → Dec (k < w) → getD ws k 0 < 2 ^ 64
+    go k (yes l) = at k l
+    go k (no l) = rw (List·getD-eq-default ws 0 {n = k} (omega arith)) (lit< tt)
+
 module _ {w : ℕ} {ws : List ℕ} (h : Words w ws) where
-  words-set : (i v : ℕ) → v < 2 ^ 64 → Words w (set ws i v)
-  words-set i v hv = record { long = length-set ws i v ∙ h .long; fits = λ k. at k (ℕ-discrete k i) (decLt i (length ws)) }
-    where
-      at : (k : ℕ) → Dec (k ≡ i) → Dec (i < length ws) → getD (set ws i v) k 0 < 2 ^ 64
-      at k (yes e) (yes l) = rw (e, getD-set-same ws i v 0 l) hv
-      at k (yes e) (no l) = rw (List·getD-eq-default (set ws i v) 0 {n = k} (omega (arith, length-set ws i v))) (lit< tt)
-      at k (no e) l = rw (getD-set-other ws i k v 0 e) (h .fits k)
-
-  pub words-inserted : (i : ℕ) → Words w (inserted ws i)
-  unfolding inserted
-  words-inserted i = words-set (i / 64) _ (or-lt 64 _ _ (h .fits (i / 64)) (pow-lt {j = 64} (omega arith)))
-
-  pub words-removed : (i : ℕ) → Words w (removed ws i)
-  unfolding removed
-  words-removed i =
-      words-set (i / 64) _ (omega (arith, h .fits (i / 64), and-le-l (getD ws (i / 64) 0) (ones - 2 ^ (i % 64))))
-
   words-zipped : (f : ℕ → ℕ → ℕ) (ys : List ℕ) → ((k : ℕ) → f (getD ws k 0) (getD ys k 0) < 2 ^ 64) → Words w (zipped f ws ys)
-  words-zipped f ys at = record { long = length-zipped f ws ys ∙ h .long; fits = λ k. go k (decLt k (length ws)) }
-    where
-      go : (k : ℕ) → Dec (k < length ws) → getD (zipped f ws ys) k 0 < 2 ^ 64
-      go k (yes l) = rw (getD-zipped f ws ys k l) (at k)
-      go k (no l) = rw (List·getD-eq-default (zipped f ws ys) 0 {n = k} (omega (arith, length-zipped f ws ys))) (lit< tt)
+  words-zipped f ys at =
+      words-each w (zipped f ws ys) (length-zipped f ws ys ∙ h .long) (λ k l. rw (getD-zipped f ws ys k (omega (arith, h .long))) (at k))
 
   pub words-meet : (ys : List ℕ) → Words w (meet ws ys)
   words-meet ys = words-zipped bitAnd ys (λ k. omega (arith, h .fits k, and-le-l (getD ws k 0) (getD ys k 0)))
@@ -185,11 +172,7 @@ module _ {w : ℕ} {ws : List ℕ} (h : Words w ws) where
       words-zipped (λ x y. bitAnd x (ones - y)) ys (λ k. omega (arith, h .fits k, and-le-l (getD ws k 0) (ones - getD ys k 0)))
 
 pub words-replicate : (w v : ℕ) → v < 2 ^ 64 → Words w (replicate w v)
-words-replicate w v h = record { long = length-replicate w v; fits = λ k. go k (decLt k w) }
-  where
-    go : (k : ℕ) → Dec (k < w) → getD (replicate w v) k 0 < 2 ^ 64
-    go k (yes l) = rw (getD-replicate w k v 0 l) h
-    go k (no l) = rw (List·getD-eq-default (replicate w v) 0 {n = k} (omega (arith, length-replicate {A = ℕ} w v))) (lit< tt)
+words-replicate w v h = words-each w (replicate w v) (length-replicate w v) (λ k l. rw (getD-replicate w k v 0 l) h)
 
 -- ---- equal sets
 pub same-refl : (xs : List ℕ) → same xs xs ≡ true
@@ -297,10 +280,6 @@ some-bit x h ne = go (a-bit x 64)
     go (inl r) = r
     go (inr none) = absurd (ne (bits-tell 64 x 0 h (lit< tt) (λ j l. none j l ∙ sym (bit-zero j))))
 
-and-both : (a b : Bool) → (a && b) ≡ true → (a ≡ true) × (b ≡ true)
-and-both true b e = (refl, e)
-and-both false b e = absurd (false≢true e)
-
 module _ {w : ℕ} {xs ys : List ℕ} (hx : Words w xs) (hy : Words w ys) where
   -- sets with a slot in common have one
   pub common-member : common xs ys ≡ true → (i : ℕ) × (i < 64 * w) × (member xs i ≡ true) × (member ys i ≡ true)
@@ -312,7 +291,7 @@ module _ {w : ℕ} {xs ys : List ℕ} (hx : Words w xs) (hy : Words w ys) where
       let y : ℕ = getD ys k 0 in
       let b = some-bit (bitAnd x y) (omega (arith, hx .fits k, and-le-l x y)) (r .2) in
       let j : ℕ = b .0 in
-      let p : (bit x j ≡ true) × (bit y j ≡ true) = and-both (bit x j) (bit y j) (sym (bit-and x y j) ∙ b .2) in
+      let p : (bit x j ≡ true) × (bit y j ≡ true) = and-eq-true-iff (bit x j) (bit y j) .0 (sym (bit-and x y j) ∙ b .2) in
       let q : (64 * k + j) / 64 ≡ k = omega (arith, b .1) in
       let m : (64 * k + j) % 64 ≡ j = omega (arith, b .1) in
       (64 * k + j, omega (arith, b .1, r .1, hx .long), rw (q, m) (p .0), rw (q, m) (p .1))

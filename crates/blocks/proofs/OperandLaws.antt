@@ -3,12 +3,10 @@ use mathlib.Core.Path.{_≡_, refl, sym, ap, subst, _∙_}
 use mathlib.Core.Bool.{Bool, true, false}
 use mathlib.Core.List.{List, [], _∷_}
 use mathlib.Core.Option.{Option, none, some}
-use Prim.Native.Nat.{ℕ, zero, suc, _+_, _-_, _≤_, _<_}
+use Prim.Native.Nat.{ℕ, zero, suc, _+_, _≤_, _<_}
 use native.Mathlib.Omega.{arith}
-use lib.Dec.{T, eqb}
-use lib.ListN.{length, getD, replicate, length-append}
-use Rattle.dataflow.specs.Lists.{pick}
-use Rattle.operands.specs.Choice as choice
+use lib.Dec.{T}
+use lib.ListN.{length, getD, length-append}
 use Rattle.operands.specs.Places.{Place, one, optional, rest, absent, gathered}
 use Rattle.operands.specs.Patterns.{S, Sopt, roleAt}
 use Rattle.operands.specs.Variants.{variants, jumpTargets}
@@ -19,9 +17,9 @@ use Rattle.operands.specs.declared.instruction.Instruction.{Instruction}
 use Rattle.operands.specs.declared.instruction.Value.the-variants as values
 use Rattle.operands.specs.declared.instruction.SlotOperand.{SlotOperand}
 use Rattle.operands.specs.declared.instruction.SlotOperand.the-variants as slots
-use Rattle.operands.proofs.Table.{at}
+use Rattle.operands.proofs.Table.{at-kind}
 use Rattle.operands.proofs.InstructionLaws.{view-count}
-use Rattle.operands.proofs.PlaceLaws.{gathered-append}
+use Rattle.operands.proofs.PlaceLaws.{gathered-append, single-gathered, single-few}
 use Rattle.bitset.specs.Below.{AllBelow}
 use Rattle.script.specs.Script.{listOf}
 
@@ -55,46 +53,29 @@ two-gathered (optional i ∷ ps) v t = absurd t
 two-gathered (rest i ∷ ps) v t = absurd t
 
 -- the computed test, at each kind
-unfoldable fewTargets : ℕ → ℕ → Bool
-fewTargets k z = two (bySource (k + 1) .targets)
+unfoldable fewTargets : ℕ → Bool
+fewTargets k = two (bySource k .targets)
 
-all-few : (k : ℕ) → k < 41 → T (fewTargets k (getD (replicate 41 0) k 0))
+all-few : (k : ℕ) → 1 ≤ k → k ≤ 41 → T (fewTargets k)
 unfolding fewTargets bySource variants jumpTargets two onePlace
-all-few k h = at fewTargets (replicate 41 0) tt k h
+all-few = at-kind fewTargets tt
 
 -- an instruction names at most two targets
 pub targets-few : (k : ℕ) (v : List ℕ) → 1 ≤ k → k ≤ 41 → length (targetsOf k v) ≤ 2
 unfolding fewTargets targetsOf
-targets-few k v l h =
-    let q : k - 1 + 1 ≡ k = omega arith in
-    let t : T (two (bySource k .targets)) = subst (λ (n : ℕ). T (two (bySource n .targets))) q (all-few (k - 1) (omega arith)) in
-    two-gathered (bySource k .targets) v t
+targets-few k v l h = two-gathered (bySource k .targets) v (all-few k l h)
 
 -- ---- few inputs
 
--- a single field gives at most one operand
-single-few : (a b role j : ℕ) (v : List ℕ) → length (gathered (singlePlace a b role j) v) ≤ 1
-unfolding gathered
-single-few a b role j v = go (eqb role a) (eqb role b) (eqb (getD v j absent) absent)
-  where
-    go : (p q r : Bool)
-        → length (gathered (choice.pick p (one j ∷ []) (choice.pick q (optional j ∷ []) [])) v) ≤ 1
-    go true q r = omega arith
-    go false true r = present (eqb (getD v j absent) absent)
-      where
-        present : (t : Bool) → length (choice.pick t [] (getD v j absent ∷ [])) ≤ 1
-        present true = omega arith
-        present false = omega arith
-    go false false r = omega arith
-
--- and n fields at most n
+-- n fields give at most n operands
 places-few : (a b k j n : ℕ) (v : List ℕ) → length (gathered (placesFrom a b k j n) v) ≤ n
 unfolding placesFrom gathered
 places-few a b k j zero v = omega arith
 places-few a b k j (suc n) v =
     let e = ap length (gathered-append (singlePlace a b (roleAt k j) j) (placesFrom a b k (j + 1) n) v)
     ∙ length-append (gathered (singlePlace a b (roleAt k j) j) v) (gathered (placesFrom a b k (j + 1) n) v) in
-    omega (arith, e, single-few a b (roleAt k j) j v, places-few a b k (j + 1) n v)
+    let f = ap length (single-gathered a b (roleAt k j) j v) in
+    omega (arith, e, f, single-few a b (roleAt k j) (getD v j absent), places-few a b k (j + 1) n v)
 
 -- as many inputs as fields and four more, at most
 pub inputs-few : (s : List ℕ) (i : Instruction) → Readable s i → length (inputsOf (i .pattern .kind) (valuesOf s i)) ≤ i .fields + 4

@@ -1,14 +1,13 @@
 -- The fields of a record one after the other: the steps of the loops over them. Assumes nothing.
-use mathlib.Core.Path.{_≡_, ap, sym}
-use mathlib.Core.Bool.{Bool, false, _||_}
-use mathlib.Core.List.{List}
+use mathlib.Core.Path.{_≡_, refl, ap, sym}
+use mathlib.Core.Bool.{Bool, false, _||_, or-assoc, or-false}
+use mathlib.Core.List.{List, [], _∷_}
 use Prim.Native.Nat.{ℕ, suc, _+_, _-_, _≤_, _<_}
 use native.Mathlib.Omega.{arith}
 use lib.Dec.{leb}
 use Rattle.operands.specs.Patterns.{roleAt}
 use Rattle.operands.specs.Bytes.{u32At, numbersAt}
 use Rattle.format.specs.Fields.{anyField, anyAbove}
-use Rattle.format.proofs.Or.{or-assoc, or-false}
 
 -- the loop over the fields of an instruction, at its start, after a turn and at its end
 module _ (f : ℕ → ℕ → Bool) (s : List ℕ) (k : ℕ) where
@@ -26,18 +25,8 @@ module _ (f : ℕ → ℕ → Bool) (s : List ℕ) (k : ℕ) where
   unfolding numbersAt anyField
   fields-end at j n found h = let q : n - j ≡ 0 = omega arith in rw q (or-false found)
 
--- the loop over plain numbers
-module _ (bound : ℕ) (s : List ℕ) where
-  pub above-start : (first n : ℕ) → anyAbove bound (numbersAt s first n) ≡ (false || anyAbove bound (numbersAt s first (n - 0)))
-  above-start first n = ap (λ (m : ℕ). anyAbove bound (numbersAt s first m)) (omega arith)
-
-  pub above-more : (at k n : ℕ) (found t : Bool) → k < n → t ≡ leb bound (u32At s at)
-      → (found || anyAbove bound (numbersAt s at (n - k))) ≡ ((found || t) || anyAbove bound (numbersAt s (at + 4) (n - (k + 1))))
-  unfolding numbersAt anyAbove
-  above-more at k n found t h e =
-      let q : n - k ≡ suc (n - (k + 1)) = omega arith in
-      rw (q, e) (sym (or-assoc found (leb bound (u32At s at)) (anyAbove bound (numbersAt s (at + 4) (n - (k + 1))))))
-
-  pub above-end : (at k n : ℕ) (found : Bool) → n ≤ k → (found || anyAbove bound (numbersAt s at (n - k))) ≡ found
-  unfolding numbersAt anyAbove
-  above-end at k n found h = let q : n - k ≡ 0 = omega arith in rw q (or-false found)
+-- a number at or above a bound is a field that passes a test which looks at no role
+pub above-field : (bound k j : ℕ) (v : List ℕ) → anyAbove bound v ≡ anyField (λ role x. leb bound x) k j v
+unfolding anyAbove anyField
+above-field bound k j [] = refl
+above-field bound k j (x ∷ v) = ap (λ (t : Bool). leb bound x || t) (above-field bound k (j + 1) v)

@@ -1,6 +1,6 @@
 -- The laws of `headAt`. Assumes nothing.
 use mathlib.Core.Path.{_≡_, refl}
-use mathlib.Core.Bool.{Bool, true, false, _||_}
+use mathlib.Core.Bool.{Bool, true, false}
 use mathlib.Core.List.{List}
 use Prim.Native.Nat.{ℕ, _+_, _≤_, _<_}
 use native.Mathlib.Omega.{arith}
@@ -10,6 +10,7 @@ use lib.ListN.{length}
 use Rattle.operands.specs.Choice.{pick}
 use Rattle.format.specs.declared.head.Head.the-variants.{Record, Short}
 use Rattle.format.specs.Heads.{u16At, kindAt, endAt, short, headAt}
+use Rattle.format.proofs.Or.{or-none}
 
 -- one for each way through `head_at`
 module _ (s : List ℕ) (at : ℕ) where
@@ -40,17 +41,10 @@ pub record Within (s : List ℕ) (at : ℕ) : Type 0 where
 
 pub lies : (s : List ℕ) (at : ℕ) → short s at ≡ false → Within s at
 unfolding short
-lies s at e = go (ltb (length s) (at + 4)) refl (ltb (u16At s at) 2) refl (ltb (length s) (endAt s at)) refl e
-  where
-    go : (p : Bool) → ltb (length s) (at + 4) ≡ p → (q : Bool) → ltb (u16At s at) 2 ≡ q → (r : Bool) → ltb (length s) (endAt s at) ≡ r
-        → (p || (q || r)) ≡ false → Within s at
-    go false p false q false r e =
-        let m : endAt s at ≤ length s = ltb-false _ _ r in
-        let l : 2 ≤ u16At s at = ltb-false _ _ q in
-        record { ordered = omega arith; within = m }
-    go false p false q true r e = let z : _≡_ {A = ℕ} 0 1 = cc in absurd (omega arith)
-    go false p true q r r′ e = let z : _≡_ {A = ℕ} 0 1 = cc in absurd (omega arith)
-    go true p q q′ r r′ e = let z : _≡_ {A = ℕ} 0 1 = cc in absurd (omega arith)
+lies s at e =
+    let a = or-none (ltb (length s) (at + 4)) _ e in
+    let b = or-none (ltb (u16At s at) 2) (ltb (length s) (endAt s at)) (a .1) in
+    record { ordered = omega (arith, ltb-false (u16At s at) 2 (b .0)); within = ltb-false _ _ (b .1) }
 
 -- what a head that was found says
 pub record Inside (s : List ℕ) (at kind body end : ℕ) : Type 0 where

@@ -1,6 +1,6 @@
 -- The laws of `typeAt`, `itemsAt` and `wholeType`, one for each way through the readers. Assumes nothing.
 use mathlib.Core.Path.{_≡_, refl, ap, sym, _∙_}
-use mathlib.Core.Bool.{Bool, true, false, _||_}
+use mathlib.Core.Bool.{Bool, false, _||_, or-false, or-assoc}
 use mathlib.Core.List.{List}
 use Prim.Native.Nat.{ℕ, zero, suc, _+_, _-_, _≤_, _<_}
 use native.Mathlib.Omega.{arith}
@@ -26,7 +26,6 @@ use Rattle.format.specs.Types.{
   typedOf,
   itemsOf,
 }
-use Rattle.format.proofs.Or.{or-assoc}
 
 -- a type that is no tuple, as the code answers it
 leaf-host : (b at : ℕ) → 1 ≤ b → b ≤ 3 → typedOf (leaf b at) ≡ Got (at + 1) (eqb b 2 || eqb b 3)
@@ -91,11 +90,7 @@ module _ (s : List ℕ) (end at : ℕ) (h : at < end) where
 module _ (read : ℕ → Read Ty) (at : ℕ) (host : Bool) where
   pub none-left : (n : ℕ) → n ≡ 0 → Got at host ≡ itemsOf host (itemsAt read n at)
   unfolding itemsAt
-  none-left zero e = ap (λ (b : Bool). Got at b) (or-none host)
-    where
-      or-none : (b : Bool) → b ≡ (b || false)
-      or-none true = refl
-      or-none false = refl
+  none-left zero e = ap (λ (b : Bool). Got at b) (sym (or-false host))
   none-left (suc n) e = absurd (omega arith)
 
   -- an item before others

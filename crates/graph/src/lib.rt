@@ -2,10 +2,10 @@
 use budget::Charged;
 use budget::FlowBudget;
 use budget::Limits;
+use format::refusal::Refusal;
 use instructions::sets;
 use memory::layout::Layout;
 use rooms::Lent;
-use format::refusal::Refusal;
 use rooms::Staged;
 use sheet::script::Script;
 ghost use mathlib.Core.Path.{_≡_};

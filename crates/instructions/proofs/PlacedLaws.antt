@@ -1,5 +1,5 @@
 -- An instruction and a slot as the code holds them. Assumes nothing.
-use mathlib.Core.Path.{_≡_, refl, ap, sym, _∙_}
+use mathlib.Core.Path.{_≡_, refl, sym, _∙_}
 use mathlib.Core.Bool.{Bool, true, false, _||_}
 use mathlib.Core.List.{List}
 use Prim.Native.Nat.{ℕ, _+_, _-_, _/_, _≤_, _<_}
@@ -8,7 +8,6 @@ use borrow.Author.Tests.{ne-eqb, eqb-true, eqb-false, leb-true, leb-false}
 use lib.Dec.{eqb, leb}
 use lib.ListN.{length, getD}
 use Rattle.operands.specs.Patterns.{wordOf}
-use Rattle.operands.specs.Instructions.{Known}
 use Rattle.operands.specs.declared.pattern.Pattern.{Pattern}
 use Rattle.format.specs.declared.types.Typed.the-variants.{Got, BadType}
 use Rattle.format.specs.Types.{Ty, inlineHost, Read, got, unfit, typedOf, typeAt, wholeType}
@@ -22,13 +21,6 @@ use Rattle.instructions.specs.declared.placed.Placed.{Placed}
 use Rattle.instructions.specs.declared.slot.SlotRecord.{SlotRecord}
 use Rattle.instructions.specs.Placed.{placedAt}
 use Rattle.instructions.specs.Slots.{isHost, SlotStands, slotRecordAt}
-
--- a kind of the table with its own pattern is told by its kind
-pub pattern-is : (p : Pattern) (k : ℕ) → p .kind ≡ k → Known p → p ≡ record { kind = k; word = wordOf k }
-pattern-is p k e h = go (p .kind) (p .word) e (h .own ∙ ap wordOf e)
-  where
-    go : (a b : ℕ) → a ≡ k → b ≡ wordOf k → _≡_ {A = Pattern} (record { kind = a; word = b }) (record { kind = k; word = wordOf k })
-    go a b e q = rw (e, q)
 
 -- what `instruction_at` makes is the instruction there
 pub placed-made : (s : List ℕ) (at n : ℕ) (p : Pattern) → n ≡ u16At s at → p ≡ record { kind = kindAt s at; word = wordOf (kindAt s at) }

@@ -23,6 +23,7 @@ use Rattle.memory.proofs.ScratchLaws.{word-put, place-instructions}
 use Rattle.bitset.specs.Below.{AllBelow}
 use Rattle.operands.specs.Instructions.{nth}
 use Rattle.operands.specs.declared.instruction.Value.the-variants as values
+use Rattle.operands.proofs.PlaceLaws.{nth-there}
 use Rattle.leaders.specs.Leaders.{markAll, markNext, markedBy, leads, ledBy}
 
 -- ---- what the marks are after stores
@@ -125,19 +126,12 @@ pub targets-all : (ts : List ℕ) (m : Mem) (k : ℕ) → length ts ≤ k → ma
 unfolding markAll
 targets-all ts m k h = rw (drop-of-length-le ts h) refl
 
--- the k-th of a list that is long enough
-nth-there : (l : List ℕ) (k : ℕ) → k < length l → nth l k ≡ values.Is (getD l k 0)
-unfolding nth
-nth-there [] k h = absurd (omega arith)
-nth-there (x ∷ l) zero h = refl
-nth-there (x ∷ l) (suc k) h = nth-there l k (omega arith)
-
 -- the k-th operand, as it is read
 module _ (l : List ℕ) (k : ℕ) (h : k < length l) where
   pub operand-there : (x : ℕ) → values.Is x ≡ nth l k → x ≡ getD l k 0
-  operand-there x e = let f : values.Is x ≡ values.Is (getD l k 0) = e ∙ nth-there l k h in cc
+  operand-there x e = let f : values.Is x ≡ values.Is (getD l k 0) = e ∙ nth-there l k 0 h in cc
 
   pub operand-missing : values.Absent ≡ nth l k → ⊥
   operand-missing e =
-      let f : values.Absent ≡ values.Is (getD l k 0) = e ∙ nth-there l k h in
+      let f : values.Absent ≡ values.Is (getD l k 0) = e ∙ nth-there l k 0 h in
       let z : _≡_ {A = ℕ} 0 1 = cc in omega arith

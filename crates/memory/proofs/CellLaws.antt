@@ -7,11 +7,10 @@ use native.Mathlib.Decide.{decLt, ℕ-discrete}
 use native.Mathlib.Nat.{suc-mul, zero-mul}
 use native.Mathlib.Omega.{arith}
 use lib.ListN.{length, getD, set, take, drop, replicate, length-set, length-replicate, getD-replicate, List·getD-append}
-use lib.Seq.{getD-set-same, getD-set-other, set-out, set-set, ext-getD, drop-drop, take-append-le, take-append-add, getD-append-add}
-use lib.Seq.{take-set-le, take-set-lt, drop-set-lt, drop-set-add}
+use lib.Seq.{getD-set-same, getD-set-other, set-out, set-set, ext-getD, drop-drop, take-all, take-append-le, take-append-add, getD-append-add}
 use Rattle.bitset.specs.Sets.{Words}
 use Rattle.bitset.specs.Rows.{row, patched}
-use Rattle.bitset.proofs.RowLaws.{length-row, getD-row, row-same, row-apart, words-row}
+use Rattle.bitset.proofs.RowLaws.{length-row, row-same, row-apart, words-row}
 use Rattle.memory.specs.Cells.{Mem, cells, total, cell, word, storeCell, store}
 
 -- ---- where a cell lies: it begins behind the cells before it, and is as wide as its width says
@@ -65,19 +64,6 @@ cell-length ns l k h = ap length (cell-row ns l k) ∙ length-row l (start ns k)
 -- the words of a cell fit 64 bits where those of the slice do
 pub cell-words : (ns l : List ℕ) (k : ℕ) → ((i : ℕ) → getD l i 0 < 2 ^ 64) → total ns ≤ length l → Words (width ns k) (cell (cells ns l) k)
 cell-words ns l k f h = rw (cell-row ns l k) (words-row l (start ns k) (width ns k) f (omega (arith, cell-fits ns k)))
-
-pub word-at : (ns l : List ℕ) (k i : ℕ) → i < width ns k → word (cells ns l) k i ≡ getD l (start ns k + i) 0
-word-at ns l k i h = ap (λ (x : List ℕ). getD x i 0) (cell-row ns l k) ∙ getD-row l (start ns k) (width ns k) i h
-
-pub store-at : (ns l : List ℕ) (k i v : ℕ) → i < width ns k → cells ns (set l (start ns k + i) v) ≡ store (cells ns l) k i v
-unfolding cells total
-store-at [] l k i v h = absurd (omega arith)
-store-at (n ∷ ns) l zero i v h =
-    let e : 0 + i ≡ i = omega arith in
-    rw (e, take-set-lt n l i v h, drop-set-lt n l i v h)
-store-at (n ∷ ns) l (suc k) i v h =
-    let e : n + start ns k + i ≡ n + (start ns k + i) = omega arith in
-    rw (e, take-set-le n l (n + (start ns k + i)) v (omega arith), drop-set-add n l (start ns k + i) v, store-at ns (drop n l) k i v h)
 
 -- words put where a cell lies are the cell, and no other cell changes
 pub cells-patched : (ns l : List ℕ) (k : ℕ) (ys : List ℕ) → length ys ≡ width ns k → total ns ≤ length l
@@ -168,16 +154,15 @@ unfolding total
 total-append [] b = omega arith
 total-append (x ∷ a) b = omega (arith, total-append a b)
 
-pub total-equal : (n w : ℕ) → total (replicate n w) ≡ n * w
-unfolding total
-total-equal zero w = sym (zero-mul w)
-total-equal (suc n) w = omega (arith, total-equal n w, suc-mul n w)
-
 pub start-equal : (n w k : ℕ) → k ≤ n → start (replicate n w) k ≡ k * w
 unfolding total
 start-equal n w zero h = sym (zero-mul w)
 start-equal zero w (suc k) h = absurd (omega arith)
 start-equal (suc n) w (suc k) h = omega (arith, start-equal n w k (omega arith), suc-mul k w)
+
+pub total-equal : (n w : ℕ) → total (replicate n w) ≡ n * w
+total-equal n w =
+    ap total (sym (take-all n (replicate n w) (omega (arith, length-replicate {A = ℕ} n w)))) ∙ start-equal n w n (omega arith)
 
 module _ (n w : ℕ) (ns : List ℕ) (k : ℕ) where
   behind : n ≤ k → k ≡ length (replicate n w) + (k - n)

@@ -6,13 +6,13 @@ use Prim.Native.Nat.{ℕ, suc, _+_, _-_, _/_, _≤_, _<_}
 use native.Mathlib.Numerals.{add-one}
 use native.Mathlib.Omega.{arith}
 use lib.Bits.{bitAnd, bitOr}
-use lib.ListN.{length, take, drop, set, replicate, length-replicate}
+use lib.ListN.{length, take, drop, getD, set, replicate, length-set, length-replicate}
 use lib.Seq.{take-suc-set, drop-set-lt}
 use Rattle.bitset.specs.Sets.{ones, member, inserted, removed, zipped, join, difference}
 use Rattle.bitset.specs.Rows.{row, patched, insertedAt, removedAt, Apart}
 use Rattle.bitset.proofs.SetLaws.{length-inserted, length-removed, length-zipped}
-use Rattle.bitset.proofs.RowLaws.{length-row, member-row, inserted-row, removed-row}
-use Rattle.memory.specs.Cells.{cells, total, cell, storeCell}
+use Rattle.bitset.proofs.RowLaws.{length-row, getD-row, set-row, member-row, inserted-row, removed-row}
+use Rattle.memory.specs.Cells.{cells, total, cell, word, storeCell, store}
 use Rattle.memory.proofs.CellLaws.{start, width, cell-fits, cells-apart, cell-row, cells-patched}
 
 -- cell k of the words l begins at base and is w words wide, and the words are enough for all cells
@@ -42,6 +42,14 @@ module _ {ns l : List ℕ} {k base w : ℕ} (p : Lies ns l k base w) where
   lies-changed f long e =
       lies-patched (f (row l base w)) (long (row l base w) ∙ length-row l base w lies-fits) e
       ∙ ap (λ (x : List ℕ). storeCell (cells ns l) k (f x)) lies-row
+
+  -- one word
+  module _ (i : ℕ) (h : i < w) where
+    pub lies-word : getD l (base + i) 0 ≡ word (cells ns l) k i
+    lies-word = sym (getD-row l base w i h) ∙ ap (λ (x : List ℕ). getD x i 0) lies-row
+
+    pub lies-stored : (v : ℕ) → cells ns (set l (base + i) v) ≡ store (cells ns l) k i v
+    lies-stored v = lies-changed (λ x. set x i v) (λ x. length-set x i v) (set-row l base w i v lies-fits h)
 
   -- one slot
   module _ (slot : ℕ) (h : slot / 64 < w) where

@@ -1,5 +1,5 @@
 -- The layout of scratch: its cells fill document 01's size, how wide each is and where it begins. Assumes nothing.
-use mathlib.Core.Path.{_≡_, sym, ap, ap₂, _∙_}
+use mathlib.Core.Path.{_≡_, refl, sym, ap, ap₂, _∙_}
 use mathlib.Core.List.{List, _++_}
 use Prim.Native.Nat.{ℕ, _+_, _-_, _*_, _^_, _≤_, _<_}
 use native.Mathlib.Omega.{arith}
@@ -7,11 +7,11 @@ use lib.ListN.{length, getD, set, replicate, length-replicate, getD-replicate}
 use Rattle.bitset.specs.Sets.{Words}
 use Rattle.bitset.specs.Rows.{row}
 use Rattle.memory.specs.declared.layout.Layout.{Layout}
-use Rattle.memory.specs.Cells.{Mem, cells, total, cell, word, store}
+use Rattle.memory.specs.Cells.{Mem, total, cell, word, store}
 use Rattle.memory.specs.Scratch.{scratchWidths, scratchCells, scratchWords, scratch, Room, Place, Row}
-use Rattle.memory.proofs.CellLaws.{start, width, cell-fits, length-cells, cell-row, cell-words, word-at, store-at, word-store-same}
+use Rattle.memory.proofs.CellLaws.{start, width, cell-fits, length-cells, cell-row, cell-words, word-store-same}
 use Rattle.memory.proofs.CellLaws.{Sized, sized, total-append, total-equal, start-equal, start-in, start-past, width-in, width-past}
-use Rattle.memory.proofs.CellRows.{Lies}
+use Rattle.memory.proofs.CellRows.{Lies, lies-word, lies-stored}
 
 module _ (y : Layout) where
   abbrev rows : List ℕ
@@ -115,9 +115,6 @@ module _ (y : Layout) where
       pub place-edges : 16 ≤ k → k < 18 → i < 2 * y .blocks → Place y k i
       place-edges a b g = record { among = omega arith; inside = rw (width-edges a b) g }
 
-      pub place-row : Row y k → i < y .words → Place y k i
-      place-row r g = record { among = r .high; inside = rw (width-row r) g }
-
 -- ---- cells of this layout, however they came about
 module _ (y : Layout) {m : Mem} (z : Sized (scratchWidths y) m) where
   pub sized-among : {k : ℕ} → k < scratchCells y → k < length m
@@ -141,16 +138,6 @@ pub scratch-length : (y : Layout) (l : List ℕ) → length (scratch y l) ≡ sc
 unfolding scratch
 scratch-length y l = length-cells (scratchWidths y) l ∙ scratch-count y
 
--- word i of cell k, which begins at base, in the slice
-module _ {y : Layout} {k i base : ℕ} (p : Place y k i) (e : base ≡ start (scratchWidths y) k) (l : List ℕ) where
-  pub place-word : getD l (base + i) 0 ≡ word (scratch y l) k i
-  unfolding scratch
-  place-word = ap (λ (b : ℕ). getD l (b + i) 0) e ∙ sym (word-at (scratchWidths y) l k i (p .inside))
-
-  pub place-store : (v : ℕ) → scratch y (set l (base + i) v) ≡ store (scratch y l) k i v
-  unfolding scratch
-  place-store v = ap (λ (b : ℕ). cells (scratchWidths y) (set l (b + i) v)) e ∙ store-at (scratchWidths y) l k i v (p .inside)
-
 module _ {y : Layout} (l : List ℕ) (room : Room y (length l)) where
   enough : total (scratchWidths y) ≤ length l
   enough = omega (arith, scratch-total y)
@@ -165,6 +152,16 @@ module _ {y : Layout} (l : List ℕ) (room : Room y (length l)) where
   -- a cell of width w, which begins at base, in the slice
   pub cell-lies : {k base w : ℕ} → base ≡ start (scratchWidths y) k → w ≡ width (scratchWidths y) k → Lies (scratchWidths y) l k base w
   cell-lies e f = record { begins = e; wide = sym f; room = enough }
+
+  -- word i of cell k, which begins at base
+  module _ {k i base : ℕ} (p : Place y k i) (e : base ≡ start (scratchWidths y) k) where
+    pub place-word : getD l (base + i) 0 ≡ word (scratch y l) k i
+    unfolding scratch
+    place-word = lies-word (cell-lies e refl) i (p .inside)
+
+    pub place-store : (v : ℕ) → scratch y (set l (base + i) v) ≡ store (scratch y l) k i v
+    unfolding scratch
+    place-store = lies-stored (cell-lies e refl) i (p .inside)
 
   module _ {k : ℕ} (r : Row y k) where
     -- row k, which begins at base, in the slice

@@ -72,9 +72,6 @@ module _ {y : Layout} (l : List ℕ) (room : SetsRoom y (length l)) where
     pub sets-row-lies : {base : ℕ} → base ≡ start (setsWidths y) k → Lies (setsWidths y) l k base (y .words)
     sets-row-lies e = record { begins = e; wide = width-sets-row y k r; room = enough }
 
-    pub sets-row-length : length (cell (sets y l) k) ≡ y .words
-    sets-row-length = sets-sized .wide k ∙ width-sets-row y k r
-
     pub sets-row-words : ((i : ℕ) → getD l i 0 < 2 ^ 64) → Words (y .words) (cell (sets y l) k)
     unfolding sets
     sets-row-words f = rw (width-sets-row y k r) at (cell-words (setsWidths y) l k f enough)
@@ -83,9 +80,6 @@ module _ {y : Layout} (l : List ℕ) (room : SetsRoom y (length l)) where
     -- entry k, which begins at base, in the slice
     pub await-lies : {base : ℕ} → base ≡ start (setsWidths y) k → Lies (setsWidths y) l k base (1 + y .words)
     await-lies e = record { begins = e; wide = width-await y k r; room = enough }
-
-    pub await-length : length (cell (sets y l) k) ≡ 1 + y .words
-    await-length = sets-sized .wide k ∙ width-await y k r
 
     pub await-words : ((i : ℕ) → getD l i 0 < 2 ^ 64) → Words (1 + y .words) (cell (sets y l) k)
     unfolding sets

@@ -1,12 +1,12 @@
 -- The operands of an instruction that can be read, field by field. Assumes nothing.
 use mathlib.Core.Path.{_≡_, refl, ap, sym, _∙_}
 use mathlib.Core.Bool.{Bool, true, false}
-use mathlib.Core.List.{List, [], _∷_, _++_}
+use mathlib.Core.List.{List, [], _∷_, _++_, append-nil}
 use Prim.Native.Nat.{ℕ, _+_, _-_, _≤_, _<_}
 use native.Mathlib.Omega.{arith}
 use borrow.Author.Tests.{ne-eqb, eqb-true}
 use lib.Dec.{eqb, leb}
-use lib.ListN.{length, getD, drop, length-append, length-drop}
+use lib.ListN.{length, getD, drop, length-append, length-drop, drop-of-length-le}
 use lib.Seq.{getD-drop}
 use Rattle.operands.specs.Choice.{pick}
 use Rattle.operands.specs.Places.{Place, rest, absent, gathered}
@@ -14,7 +14,7 @@ use Rattle.operands.specs.Patterns.{D, S, Sopt, Dopt, T, roleAt, singleO
 use Rattle.operands.specs.Operands.{listPlace, singles, byPattern, inputsOf, outputOf, targetsOf, firstOf}
 use Rattle.operands.specs.Instructions.{Readable, valuesOf, nth, valueOf, singleValues, singlesFrom}
 use Rattle.operands.specs.declared.instruction.Instruction.{Instruction}
-use Rattle.operands.specs.declared.instruction.Value.the-variants.{Is, Absent}
+use Rattle.operands.specs.declared.instruction.Value.the-variants.{Is}
 use Rattle.operands.proofs.Agree.{inputs-agree, output-agree, targets-agree}
 use Rattle.operands.proofs.PatternLaws.{single-early, fixed-there, outputs-first, inputs-direct}
 use Rattle.operands.proofs.NumberLaws.{number-count}
@@ -32,15 +32,7 @@ field-there k n j r l h f m e a b =
 
 -- L holds all values after the single fields
 pub drop-all : (n : ℕ) (v : List ℕ) → length v ≡ n → drop n v ≡ []
-drop-all n v e = go (drop n v) (length-drop n v)
-  where
-    go : (l : List ℕ) → length l ≡ length v - n → l ≡ []
-    go [] q = refl
-    go (x ∷ l) q = absurd (omega arith)
-
-append-nil : (l : List ℕ) → l ++ [] ≡ l
-append-nil [] = refl
-append-nil (x ∷ l) = ap (λ (m : List ℕ). x ∷ m) (append-nil l)
+drop-all n v e = drop-of-length-le v {i = n} (omega arith)
 
 list-values : (k : ℕ) (v : List ℕ) → fits k (length v) ≡ true → gathered (listPlace k) v ≡ drop (fixedAt k) v
 unfolding fits listPlace gathered
@@ -51,30 +43,13 @@ list-values k v e = go (listAt k) e
     go true e = append-nil (drop (fixedAt k) v)
     go false e = sym (drop-all (fixedAt k) v (eqb-true (length v) (fixedAt k) e))
 
--- The inputs of a record that fits: L, then the single ones.
-module _ (k : ℕ) (v : List ℕ) (l : 1 ≤ k) (h : k ≤ 41) (e : fits k (length v) ≡ true) where
-  pub inputs-two : inputsOf k v ≡ drop (fixedAt k) v ++ gathered (singles S Sopt k) v
-  unfolding byPattern
-  inputs-two =
-      inputs-agree k v l h ∙ gathered-append (listPlace k) (singles S Sopt k) v
-      ∙ ap (λ (m : List ℕ). m ++ gathered (singles S Sopt k) v) (list-values k v e)
-
-  pub inputs-count : length (inputsOf k v) ≡ (length v - fixedAt k) + length (gathered (singles S Sopt k) v)
-  inputs-count = ap length inputs-two ∙ simp (length-append, length-drop)
-
-  pub input-listed : (i : ℕ) → i < length v - fixedAt k → nth (inputsOf k v) i ≡ Is (getD v (fixedAt k + i) absent)
-  input-listed i m =
-      let q = length-drop (fixedAt k) v in
-      ap (λ (x : List ℕ). nth x i) inputs-two
-      ∙ nth-first (drop (fixedAt k) v) (gathered (singles S Sopt k) v) i (omega arith)
-      ∙ ap Is (simp getD-drop)
-
-  pub input-single : (i : ℕ) → length v - fixedAt k ≤ i → nth (inputsOf k v) i ≡ nth (gathered (singles S Sopt k) v) (i - (length v - fixedAt k))
-  input-single i m =
-      let q = length-drop (fixedAt k) v in
-      ap (λ (x : List ℕ). nth x i) inputs-two
-      ∙ nth-second (drop (fixedAt k) v) (gathered (singles S Sopt k) v) i (omega arith)
-      ∙ ap (λ (n : ℕ). nth (gathered (singles S Sopt k) v) (i - n)) q
+-- the inputs of a record that fits: L, then the single ones
+pub inputs-two : (k : ℕ) (v : List ℕ) → 1 ≤ k → k ≤ 41 → fits k (length v) ≡ true
+    → inputsOf k v ≡ drop (fixedAt k) v ++ gathered (singles S Sopt k) v
+unfolding byPattern
+inputs-two k v l h e =
+    inputs-agree k v l h ∙ gathered-append (listPlace k) (singles S Sopt k) v
+    ∙ ap (λ (m : List ℕ). m ++ gathered (singles S Sopt k) v) (list-values k v e)
 
 -- an input S, where it stands
 pub input-direct : (k n j : ℕ) (v : List ℕ) → 1 ≤ k → k ≤ 41 → n < 3 → j < 4 → j ≡ pick (eqb (roleAt k 0) S) 0 1 + n → roleAt k j ≡ S
@@ -83,69 +58,66 @@ input-direct k n j v l h m b e r =
     let d = inputs-direct k n l h (omega arith) (ap (roleAt k) (sym e) ∙ r) in
     sym (nth-one (singles S Sopt k) v n j (d ∙ sym e) (omega arith))
 
--- the output and the targets are single fields
-module _ (k : ℕ) (v : List ℕ) (l : 1 ≤ k) (h : k ≤ 41) where
-  pub output-single : valueOf (outputOf k v) ≡ nth (gathered (singles D Dopt k) v) 0
+pub values-count : (s : List ℕ) (i : Instruction) → length (valuesOf s i) ≡ i .fields
+unfolding valuesOf
+values-count s i = number-count s (i .body) (i .fields)
+
+-- the operands of an instruction in the sheet
+module _ (s : List ℕ) (i : Instruction) (p : Readable s i) where
+  abbrev kind : ℕ
+  kind = i .pattern .kind
+
+  abbrev values : List ℕ
+  values = valuesOf s i
+
+  pub view-fixed : fixedAt (i .pattern .kind) ≤ i .fields
+  view-fixed = fixed-there kind (i .fields) (p .fitting)
+
+  view-two : inputsOf kind values ≡ drop (fixedAt kind) values ++ singlesFrom S Sopt s i 0
+  view-two = inputs-two kind values (p .known .low) (p .known .high) (ap (fits kind) (values-count s i) ∙ p .fitting)
+
+  view-long : length (drop (fixedAt kind) values) ≡ i .fields - fixedAt kind
+  view-long = length-drop (fixedAt kind) values ∙ ap (λ (n : ℕ). n - fixedAt kind) (values-count s i)
+
+  pub view-count : length (inputsOf (i .pattern .kind) (valuesOf s i)) ≡ (i .fields - fixedAt (i .pattern .kind)) + length (singlesFrom S Sopt s i 0)
+  view-count =
+      ap length view-two ∙ length-append (drop (fixedAt kind) values) (singlesFrom S Sopt s i 0)
+      ∙ ap (λ (n : ℕ). n + length (singlesFrom S Sopt s i 0)) view-long
+
+  pub view-listed : (k : ℕ) → k < i .fields - fixedAt (i .pattern .kind)
+      → nth (inputsOf (i .pattern .kind) (valuesOf s i)) k ≡ Is (getD (valuesOf s i) (fixedAt (i .pattern .kind) + k) absent)
+  view-listed k h =
+      ap (λ (l : List ℕ). nth l k) view-two
+      ∙ nth-first (drop (fixedAt kind) values) (singlesFrom S Sopt s i 0) k (omega (arith, view-long))
+      ∙ ap Is (getD-drop (fixedAt kind) values k absent)
+
+  pub view-single : (k : ℕ) → i .fields - fixedAt (i .pattern .kind) ≤ k
+      → nth (inputsOf (i .pattern .kind) (valuesOf s i)) k ≡ nth (singlesFrom S Sopt s i 0) (k - (i .fields - fixedAt (i .pattern .kind)))
+  view-single k h =
+      ap (λ (l : List ℕ). nth l k) view-two
+      ∙ nth-second (drop (fixedAt kind) values) (singlesFrom S Sopt s i 0) k (omega (arith, view-long))
+      ∙ ap (λ (n : ℕ). nth (singlesFrom S Sopt s i 0) (k - n)) view-long
+
+  -- the output and the targets are single fields
+  pub view-output : valueOf (outputOf (i .pattern .kind) (valuesOf s i)) ≡ nth (singlesFrom D Dopt s i 0) 0
   unfolding byPattern
-  output-single = ap valueOf (output-agree k v l h) ∙ go (gathered (singles D Dopt k) v)
+  view-output = ap valueOf (output-agree kind values (p .known .low) (p .known .high)) ∙ go (singlesFrom D Dopt s i 0)
     where
       go : (x : List ℕ) → valueOf (firstOf x) ≡ nth x 0
       go [] = sym (nth-nil [] 0 refl)
       go (y ∷ x) = sym (nth-first (y ∷ []) x 0 (omega arith))
 
-  -- field 0 alone
-  pub output-field : valueOf (outputOf k v) ≡ nth (singleValues D Dopt (roleAt k 0) (getD v 0 absent)) 0
-  unfolding gathered
-  output-field =
-      let x : List ℕ = singleValues D Dopt (roleAt k 0) (getD v 0 absent) in
-      output-single
-      ∙ ap (λ (m : List ℕ). nth m 0) (singles-more D Dopt k 0 4 v (omega arith))
-      ∙ ap (λ (ps : List Place). nth (x ++ gathered ps v) 0) (outputs-first k l h)
-      ∙ ap (λ (m : List ℕ). nth m 0) (append-nil x)
-
-  pub targets-single : targetsOf k v ≡ gathered (singles T T k) v
-  unfolding byPattern
-  targets-single = targets-agree k v l h
-
-pub values-count : (s : List ℕ) (i : Instruction) → length (valuesOf s i) ≡ i .fields
-unfolding valuesOf
-values-count s i = number-count s (i .body) (i .fields)
-
--- the same of an instruction in the sheet
-module _ (s : List ℕ) (i : Instruction) (p : Readable s i) where
-  abbrev kind : ℕ
-  kind = i .pattern .kind
-
-  pub view-fixed : fixedAt (i .pattern .kind) ≤ i .fields
-  view-fixed = fixed-there kind (i .fields) (p .fitting)
-
-  view-fits : fits kind (length (valuesOf s i)) ≡ true
-  view-fits = ap (fits kind) (values-count s i) ∙ p .fitting
-
-  pub view-count : length (inputsOf (i .pattern .kind) (valuesOf s i)) ≡ (i .fields - fixedAt (i .pattern .kind)) + length (singlesFrom S Sopt s i 0)
-  view-count =
-      inputs-count kind (valuesOf s i) (p .known .low) (p .known .high) view-fits
-      ∙ ap (λ (n : ℕ). (n - fixedAt kind) + length (singlesFrom S Sopt s i 0)) (values-count s i)
-
-  pub view-listed : (k : ℕ) → k < i .fields - fixedAt (i .pattern .kind)
-      → nth (inputsOf (i .pattern .kind) (valuesOf s i)) k ≡ Is (getD (valuesOf s i) (fixedAt (i .pattern .kind) + k) absent)
-  view-listed k h =
-      let q = values-count s i in
-      input-listed kind (valuesOf s i) (p .known .low) (p .known .high) view-fits k (omega arith)
-
-  pub view-single : (k : ℕ) → i .fields - fixedAt (i .pattern .kind) ≤ k
-      → nth (inputsOf (i .pattern .kind) (valuesOf s i)) k ≡ nth (singlesFrom S Sopt s i 0) (k - (i .fields - fixedAt (i .pattern .kind)))
-  view-single k h =
-      let q = values-count s i in
-      input-single kind (valuesOf s i) (p .known .low) (p .known .high) view-fits k (omega arith)
-      ∙ ap (λ (n : ℕ). nth (singlesFrom S Sopt s i 0) (k - (n - fixedAt kind))) q
-
-  pub view-output : valueOf (outputOf (i .pattern .kind) (valuesOf s i)) ≡ nth (singlesFrom D Dopt s i 0) 0
-  view-output = output-single kind (valuesOf s i) (p .known .low) (p .known .high)
-
+  -- the output is field 0 alone
   pub view-output-field : valueOf (outputOf (i .pattern .kind) (valuesOf s i))
       ≡ nth (singleValues D Dopt (roleAt (i .pattern .kind) 0) (getD (valuesOf s i) 0 absent)) 0
-  view-output-field = output-field kind (valuesOf s i) (p .known .low) (p .known .high)
+  unfolding gathered
+  view-output-field =
+      let x : List ℕ = singleValues D Dopt (roleAt kind 0) (getD values 0 absent) in
+      view-output
+      ∙ ap (λ (l : List ℕ). nth l 0) (singles-more D Dopt kind 0 4 values (omega arith))
+      ∙ ap (λ (ps : List Place). nth (x ++ gathered ps values) 0) (outputs-first kind (p .known .low) (p .known .high))
+      ∙ ap (λ (l : List ℕ). nth l 0) (append-nil x)
 
   pub view-targets : targetsOf (i .pattern .kind) (valuesOf s i) ≡ singlesFrom T T s i 0
-  view-targets = targets-single kind (valuesOf s i) (p .known .low) (p .known .high)
+  unfolding byPattern
+  view-targets = targets-agree kind values (p .known .low) (p .known .high)

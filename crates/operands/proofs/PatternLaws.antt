@@ -1,18 +1,19 @@
 -- The code's table holds the patterns, and what the patterns are like, by tests that are computed at each field of each kind. Assumes nothing.
-use mathlib.Core.Path.{_≡_, refl, ap, sym, subst, _∙_}
+use mathlib.Core.Path.{_≡_, refl, ap, ap₂, sym, _∙_}
 use mathlib.Core.Bool.{Bool, true, false}
 use mathlib.Core.List.{List, [], _∷_}
-use Prim.Native.Nat.{ℕ, zero, suc, _+_, _-_, _*_, _/_, _%_, _^_, _≤_, _<_, min}
+use Prim.Native.Nat.{ℕ, zero, suc, _+_, _-_, _*_, _/_, _%_, _^_, _≤_, _<_}
 use native.Mathlib.Omega.{arith}
-use lib.Dec.{T, eqb, ltb, leb, eqb→eq, ltb→lt, leb→le}
+use lib.Dec.{T, eqb, ltb, leb, eqb→eq, ltb→lt}
 use borrow.Author.Tests.{eq-eqb, le-leb, ltb-true, ltb-false, eqb-true, leb-true}
-use lib.ListN.{length, getD, replicate}
+use lib.ListN.{getD}
 use Rattle.operands.specs.Choice.{pick}
-use Rattle.operands.specs.Places.{Place}
 use Rattle.operands.specs.Patterns.{D, S, Sopt, Dopt, groups, patternIn, patternOf, roleIn, roleAt, singleOf, fixedAt, listAt, fits, wordOf}
 use Rattle.operands.specs.Operands.{placesFrom}
-use Rattle.operands.proofs.Table.{every, at}
-use Rattle.operands.proofs.PlaceLaws.{oneAt}
+use Rattle.operands.specs.Instructions.{Known}
+use Rattle.operands.specs.declared.pattern.Pattern.{Pattern}
+use Rattle.operands.proofs.Table.{at-kind, at-field}
+use Rattle.operands.proofs.PlaceLaws.{noPlace, no-place, oneAt}
 
 -- the numbers of `PATTERNS`
 abbrev pub words : List ℕ
@@ -21,49 +22,33 @@ words =
     5119 ∷ 5119 ∷ 5119 ∷ 8832 ∷ 8832 ∷ 9344 ∷ 8832 ∷ 8832 ∷ 5119 ∷ 5119 ∷ 8832 ∷ 8832 ∷ 8832 ∷ 9344 ∷ 12944 ∷ 13456 ∷ 8895 ∷ 9407 ∷
     14487 ∷ 8895 ∷ 6656 ∷ 13672 ∷ 5632 ∷ 0 ∷ []
 
-own : ℕ → ℕ → Bool
-own k x = eqb x (wordOf (k + 1))
+unfoldable own : ℕ → Bool
+own k = eqb (getD words (k - 1) 0) (wordOf k)
+
+all-own : (k : ℕ) → 1 ≤ k → k ≤ 41 → T (own k)
+unfolding own wordOf patternOf patternIn groups roleIn roleAt fixedAt
+all-own = at-kind own tt
 
 -- the entry that `Pattern::of` reads
 pub word-at : (k : ℕ) → 1 ≤ k → k ≤ 41 → getD words (k - 1) 0 ≡ wordOf k
-unfolding own wordOf patternOf patternIn groups roleIn roleAt fixedAt
-word-at k l h =
-    let e : k - 1 + 1 ≡ k = omega arith in
-    eqb→eq (getD words (k - 1) 0) (wordOf (k - 1 + 1)) (at own words tt (k - 1) (omega arith)) ∙ ap wordOf e
+unfolding own
+word-at k l h = eqb→eq (getD words (k - 1) 0) (wordOf k) (all-own k l h)
+
+-- a kind of the table with its own pattern is told by its kind
+pub pattern-is : (p : Pattern) (k : ℕ) → p .kind ≡ k → Known p → p ≡ record { kind = k; word = wordOf k }
+pattern-is p k e h = ap₂ {C = Pattern} (λ (a b : ℕ). record { kind = a; word = b }) e (h .own ∙ ap wordOf e)
 
 -- no field after field 0 is an output
-abbrev nothing : List Place → Bool
-nothing [] = true
-nothing (p ∷ ps) = false
+unfoldable inner : ℕ → Bool
+inner k = noPlace (placesFrom D Dopt k 1 3)
 
-unfoldable inner : ℕ → ℕ → Bool
-inner k x = nothing (placesFrom D Dopt (k + 1) 1 3)
-
-all-inner : (k : ℕ) → k < 41 → T (inner k (getD words k 0))
+all-inner : (k : ℕ) → 1 ≤ k → k ≤ 41 → T (inner k)
 unfolding inner patternOf patternIn groups roleIn roleAt placesFrom
-all-inner k h = at inner words tt k h
+all-inner = at-kind inner tt
 
 pub outputs-first : (k : ℕ) → 1 ≤ k → k ≤ 41 → placesFrom D Dopt k 1 3 ≡ []
 unfolding inner
-outputs-first k l h =
-    let e : k - 1 + 1 ≡ k = omega arith in
-    ap (λ (m : ℕ). placesFrom D Dopt m 1 3) (sym e) ∙ go (placesFrom D Dopt (k - 1 + 1) 1 3) (all-inner (k - 1) (omega arith))
-  where
-    go : (ps : List Place) → T (nothing ps) → ps ≡ []
-    go [] t = refl
-    go (p ∷ ps) t = absurd t
-
--- a test at each of the four fields of each of the 41 kinds
-abbrev fields : List ℕ
-fields = replicate 164 0
-
-at-field : (f : ℕ → ℕ → Bool) → T (every (λ n x. f (n / 4 + 1) (n % 4)) 0 fields)
-    → (k j : ℕ) → 1 ≤ k → k ≤ 41 → j < 4 → T (f k j)
-at-field f t k j l h m =
-    let n : ℕ = (k - 1) * 4 + j in
-    let p : n / 4 + 1 ≡ k = omega arith in
-    let q : n % 4 ≡ j = omega arith in
-    subst (λ (x : ℕ). T (f k x)) q (subst (λ (x : ℕ). T (f x (n % 4))) p (at (λ n x. f (n / 4 + 1) (n % 4)) fields t n (omega arith)))
+outputs-first k l h = no-place (placesFrom D Dopt k 1 3) (all-inner k l h)
 
 -- a role is one octal digit
 unfoldable digit : ℕ → ℕ → Bool
@@ -97,30 +82,23 @@ fixed-few k =
 
 -- the digits of a pattern's word
 module _ (k : ℕ) (l : 1 ≤ k) (h : k ≤ 41) where
+  small : (roleAt k 0 < 8) × (roleAt k 1 < 8) × (roleAt k 2 < 8) × (roleAt k 3 < 8)
+  small =
+      (role-small k 0 l h (omega arith), role-small k 1 l h (omega arith), role-small k 2 l h (omega arith), role-small k 3 l h (omega arith))
+
   pub count-digit : wordOf k / 4096 ≡ fixedAt k
   unfolding wordOf
-  count-digit = omega (arith, role-small k 0 l h (omega arith), role-small k 1 l h (omega arith), role-small k 2 l h (omega arith), role-small k 3 l h (omega arith))
-
-  digit-0 : wordOf k / 512 % 8 ≡ roleAt k 0
-  unfolding wordOf
-  digit-0 = omega (arith, role-small k 0 l h (omega arith), role-small k 1 l h (omega arith), role-small k 2 l h (omega arith), role-small k 3 l h (omega arith))
-
-  digit-1 : wordOf k / 64 % 8 ≡ roleAt k 1
-  unfolding wordOf
-  digit-1 = omega (arith, role-small k 1 l h (omega arith), role-small k 2 l h (omega arith), role-small k 3 l h (omega arith))
-
-  digit-2 : wordOf k / 8 % 8 ≡ roleAt k 2
-  unfolding wordOf
-  digit-2 = omega (arith, role-small k 2 l h (omega arith), role-small k 3 l h (omega arith))
+  count-digit = omega (arith, small)
 
   pub digit-3 : (j : ℕ) → 3 ≤ j → wordOf k % 8 ≡ roleAt k j
   unfolding wordOf
-  digit-3 j m = omega (arith, role-small k 3 l h (omega arith), role-last k j m)
+  digit-3 j m = omega (arith, small, role-last k j m)
 
   pub digit-at : (j : ℕ) → j < 3 → wordOf k / 2 ^ (9 - 3 * j) % 8 ≡ roleAt k j
-  digit-at zero m = digit-0
-  digit-at (suc zero) m = digit-1
-  digit-at (suc (suc zero)) m = digit-2
+  unfolding wordOf
+  digit-at zero m = omega (arith, small)
+  digit-at (suc zero) m = omega (arith, small)
+  digit-at (suc (suc zero)) m = omega (arith, small)
   digit-at (suc (suc (suc j))) m = absurd (omega arith)
 
 -- a single field stands before the first of L
@@ -163,14 +141,12 @@ unfolding late
 late-four k j l h m e f = eqb→eq (roleAt k j) 7 (rw (e, le-leb (fixedAt k) j f) at (all-late k j l h m))
 
 pub role-late : (k j : ℕ) → 1 ≤ k → k ≤ 41 → listAt k ≡ true → fixedAt k ≤ j → roleAt k j ≡ 7
-unfolding roleAt listAt
+unfolding listAt
 role-late k j l h e f = go (ltb j 3) refl
   where
     go : (b : Bool) → ltb j 3 ≡ b → roleAt k j ≡ 7
     go true b = late-four k j l h (omega (arith, ltb-true j 3 b)) e f
-    go false b =
-        let m = ltb-false j 3 b in
-        ap (λ (x : ℕ). roleIn (patternOf k) x) (omega arith) ∙ eqb-true (roleAt k 3) 7 e
+    go false b = sym (role-last k j (ltb-false j 3 b)) ∙ eqb-true (roleAt k 3) 7 e
 
 -- a record that fits has all single fields
 pub fixed-there : (k n : ℕ) → fits k n ≡ true → fixedAt k ≤ n

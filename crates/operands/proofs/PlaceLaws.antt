@@ -4,14 +4,24 @@ use mathlib.Core.Bool.{Bool, true, false}
 use mathlib.Core.List.{List, [], _∷_, _++_, append-assoc}
 use Prim.Native.Nat.{ℕ, zero, suc, _+_, _-_, _≤_, _<_}
 use native.Mathlib.Omega.{arith}
-use lib.Dec.{eqb}
-use lib.ListN.{length, getD, drop, length-append}
+use lib.Dec.{T, eqb}
+use lib.ListN.{length, getD, drop, length-append, List·getD-append}
 use Rattle.operands.specs.Choice.{pick}
 use Rattle.operands.specs.Places.{Place, one, optional, rest, absent, present, gathered}
 use Rattle.operands.specs.Patterns.{roleAt}
 use Rattle.operands.specs.Operands.{singlePlace, placesFrom}
 use Rattle.operands.specs.Instructions.{nth, singleValues, countOf}
 use Rattle.operands.specs.declared.instruction.Value.the-variants.{Is, Absent}
+
+-- whether there is no place
+abbrev pub noPlace : List Place → Bool
+noPlace [] = true
+noPlace (p ∷ ps) = false
+
+-- then the list is empty
+pub no-place : (ps : List Place) → T (noPlace ps) → ps ≡ []
+no-place [] t = refl
+no-place (p ∷ ps) t = absurd t
 
 -- gathering at places one after the other
 pub gathered-append : (ps qs : List Place) (v : List ℕ) → gathered (ps ++ qs) v ≡ gathered ps v ++ gathered qs v
@@ -30,7 +40,7 @@ gathered-append (rest j ∷ ps) qs v =
     ap (λ (l : List ℕ). drop j v ++ l) (gathered-append ps qs v) ∙ sym (append-assoc (drop j v) (gathered ps v) (gathered qs v))
 
 -- the values at a single place
-single-gathered : (a b role j : ℕ) (v : List ℕ) → gathered (singlePlace a b role j) v ≡ singleValues a b role (getD v j absent)
+pub single-gathered : (a b role j : ℕ) (v : List ℕ) → gathered (singlePlace a b role j) v ≡ singleValues a b role (getD v j absent)
 unfolding gathered
 single-gathered a b role j v = go (eqb role a) (eqb role b)
   where
@@ -60,7 +70,8 @@ one-counted [] h = refl
 one-counted (x ∷ []) h = refl
 one-counted (x ∷ y ∷ l) h = absurd (omega arith)
 
-single-few : (a b role x : ℕ) → length (singleValues a b role x) ≤ 1
+-- there is at most one
+pub single-few : (a b role x : ℕ) → length (singleValues a b role x) ≤ 1
 single-few a b role x = go (eqb role a) (eqb role b) (eqb x absent)
   where
     go : (p q r : Bool) → length (pick p (x ∷ []) (pick q (pick r [] (x ∷ [])) [])) ≤ 1
@@ -72,6 +83,13 @@ single-few a b role x = go (eqb role a) (eqb role b) (eqb x absent)
 pub single-counted : (a b role x : ℕ) → countOf (nth (singleValues a b role x) 0) ≡ length (singleValues a b role x)
 single-counted a b role x = one-counted (singleValues a b role x) (single-few a b role x)
 
+-- the i-th of a list that is long enough
+pub nth-there : (l : List ℕ) (i d : ℕ) → i < length l → nth l i ≡ Is (getD l i d)
+unfolding nth
+nth-there [] i d h = absurd (omega arith)
+nth-there (x ∷ l) zero d h = refl
+nth-there (x ∷ l) (suc i) d h = nth-there l i d (omega arith)
+
 -- the i-th of two lists
 pub nth-second : (l m : List ℕ) (i : ℕ) → length l ≤ i → nth (l ++ m) i ≡ nth m (i - length l)
 unfolding nth
@@ -80,10 +98,7 @@ nth-second (x ∷ l) m zero h = absurd (omega arith)
 nth-second (x ∷ l) m (suc i) h = nth-second l m i (omega arith) ∙ ap (nth m) (omega arith)
 
 pub nth-first : (l m : List ℕ) (i : ℕ) → i < length l → nth (l ++ m) i ≡ Is (getD l i absent)
-unfolding nth
-nth-first [] m i h = absurd (omega arith)
-nth-first (x ∷ l) m zero h = refl
-nth-first (x ∷ l) m (suc i) h = nth-first l m i (omega arith)
+nth-first l m i h = nth-there (l ++ m) i absent (omega (arith, length-append l m)) ∙ ap Is (List·getD-append l m absent i h)
 
 -- the first of a single place is the i-th where one is left
 pub nth-single : (a b role x : ℕ) (m : List ℕ) (i : ℕ) → i < length (singleValues a b role x)

@@ -1,6 +1,6 @@
 -- What a record that passed is like: each check taken back. Assumes nothing.
 use mathlib.Core.Path.{_≡_, refl}
-use mathlib.Core.Bool.{Bool, true, false, _||_, _&&_, not}
+use mathlib.Core.Bool.{Bool, true, false, _||_, not, and-eq-true-iff}
 use mathlib.Core.List.{List}
 use mathlib.Core.Option.{Option, none}
 use Prim.Native.Nat.{ℕ, _+_, _/_, _%_, _≤_, _<_}
@@ -22,10 +22,6 @@ use Rattle.records.specs.Records.{functionFault, parametersFault, badSlo
 pub none-due : (b : Bool) (r : Refusal) (rest : Option Refusal) → due b r rest ≡ none → (b ≡ false) × (rest ≡ none)
 none-due false r rest e = (refl, e)
 none-due true r rest e = let z : _≡_ {A = ℕ} 0 1 = cc in absurd (omega arith)
-
-pub and-both : (a b : Bool) → (a && b) ≡ true → (a ≡ true) × (b ≡ true)
-and-both true b e = (refl, e)
-and-both false b e = let z : _≡_ {A = ℕ} 0 1 = cc in absurd (omega arith)
 
 pub record FunctionPassed (s : List ℕ) (at : ℕ) : Type 0 where
   pub whole : short s at ≡ false
@@ -96,7 +92,7 @@ instruction-passed s slots n at e =
     let c = none-due _ BadBody _ (b .1) in
     let d = none-due _ NoSuchSlot _ (c .1) in
     let f = none-due _ NoSuchTarget _ (d .1) in
-    let k = and-both _ _ (not-false _ (b .0)) in
+    let k = and-eq-true-iff (leb 1 (kindAt s at)) (leb (kindAt s at) 41) .0 (not-false _ (b .0)) in
     let x = or-none _ _ (c .0) in
     let y = or-none _ _ (x .1) in
     record {

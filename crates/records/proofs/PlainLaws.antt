@@ -1,6 +1,6 @@
 -- The slot record of six bytes. Assumes nothing.
 use mathlib.Core.Path.{_≡_, refl, ap, sym, _∙_}
-use mathlib.Core.Bool.{Bool, true, false, _||_, _&&_, not}
+use mathlib.Core.Bool.{Bool, true, false, _||_, _&&_, not, and-eq-true-iff}
 use mathlib.Core.List.{List}
 use Prim.Native.Nat.{ℕ, zero, suc, _+_, _*_, _≤_, _<_}
 use native.Mathlib.Omega.{arith}
@@ -15,7 +15,6 @@ use Rattle.format.proofs.HeadLaws.{Inside, not-short}
 use Rattle.format.proofs.TypeLaws.{plain-type, whole-absent, whole-deep}
 use Rattle.records.specs.declared.record.Step.the-variants.{Next}
 use Rattle.records.specs.Records.{badSlot, topPhysical, plainSlot, slotFault, stepOf}
-use Rattle.records.proofs.Passed.{and-both}
 use Rattle.records.proofs.RecordLaws.{slot-typed, slot-due}
 
 -- a head in one number is a length and a kind
@@ -75,10 +74,10 @@ pub record Plain (s : List ℕ) (top at : ℕ) : Type 0 where
 pub plain : (s : List ℕ) (top at : ℕ) → plainSlot s top at ≡ true → Plain s top at
 unfolding plainSlot
 plain s top at e =
-    let a = and-both (leb (at + 6) (length s)) _ e in
-    let b = and-both (eqb (u16At s at) 4 && eqb (kindAt s at) 258) _ (a .1) in
-    let h = and-both (eqb (u16At s at) 4) (eqb (kindAt s at) 258) (b .0) in
-    let t = and-both (leb (getD s (at + 4) 0) (topPhysical top)) (leb (getD s (at + 5) 0) top) (b .1) in
+    let a = and-eq-true-iff (leb (at + 6) (length s)) _ .0 e in
+    let b = and-eq-true-iff (eqb (u16At s at) 4 && eqb (kindAt s at) 258) _ .0 (a .1) in
+    let h = and-eq-true-iff (eqb (u16At s at) 4) (eqb (kindAt s at) 258) .0 (b .0) in
+    let t = and-eq-true-iff (leb (getD s (at + 4) 0) (topPhysical top)) (leb (getD s (at + 5) 0) top) .0 (b .1) in
     record {
       inside = leb-true _ _ (a .0);
       long = eqb-true _ _ (h .0);

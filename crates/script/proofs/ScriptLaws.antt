@@ -4,11 +4,11 @@ use mathlib.Core.Bool.{Bool, true, false, _||_, true≢false, false≢true}
 use mathlib.Core.List.{List, [], _∷_, List·Memᴰ, List·Memᴰ·not-nil, List·Memᴰ·cases-cons}
 use mathlib.Core.Logic.{_⊎_, inl, inr}
 use mathlib.Core.Option.{Option, none, some}
-use Prim.Native.Nat.{ℕ, suc, _+_, _-_, _≤_, _<_}
+use Prim.Native.Nat.{ℕ, suc, _-_, _≤_, _<_}
 use native.Mathlib.Decide.{decLt}
 use native.Mathlib.Omega.{arith}
 use lib.Dec.{T}
-use lib.ListN.{length, getD, replicate, length-map, List·getD-eq-default}
+use lib.ListN.{length, length-map, List·getD-eq-default}
 use Rattle.dataflow.specs.Lists.{elem}
 use Rattle.dataflow.specs.Code as flow
 use Rattle.dataflow.specs.Checked.{Checked}
@@ -17,7 +17,8 @@ use Rattle.operands.specs.Kinds.{endsBlock}
 use Rattle.operands.specs.Places.{Place, gathered}
 use Rattle.operands.specs.Variants.{variants, jumpTargets}
 use Rattle.operands.specs.Operands.{bySource, inputsOf, outputOf, targetsOf}
-use Rattle.operands.proofs.Table.{at}
+use Rattle.operands.proofs.Table.{at-kind}
+use Rattle.operands.proofs.PlaceLaws.{noPlace, no-place}
 use Rattle.operands.specs.Instructions.{valuesOf}
 use Rattle.sheet.specs.declared.script.Script.{Script}
 use Rattle.sheet.specs.Decode.{Instruction, partsOf, instructionOf}
@@ -93,29 +94,18 @@ module _ (s : List ℕ) (x : Script) (h : Sound s x) where
 
 -- ---- only an instruction that ends a block has targets
 
-empty : List Place → Bool
-empty [] = true
-empty (p ∷ ps) = false
-
 -- the computed test: each kind ends a block or names no target
-unfoldable still : ℕ → ℕ → Bool
-still k z = endsBlock (k + 1) || empty (bySource (k + 1) .targets)
+unfoldable still : ℕ → Bool
+still k = endsBlock k || noPlace (bySource k .targets)
 
-all-still : (k : ℕ) → k < 41 → T (still k (getD (replicate 41 0) k 0))
-unfolding still bySource variants jumpTargets endsBlock empty
-all-still k h = at still (replicate 41 0) tt k h
+all-still : (k : ℕ) → 1 ≤ k → k ≤ 41 → T (still k)
+unfolding still bySource variants jumpTargets endsBlock
+all-still = at-kind still tt
 
 targets-still : (k : ℕ) (v : List ℕ) → 1 ≤ k → k ≤ 41 → endsBlock k ≡ false → targetsOf k v ≡ []
-unfolding still empty targetsOf gathered
+unfolding still targetsOf gathered
 targets-still k v l h e =
-    let q : k - 1 + 1 ≡ k = omega arith in
-    let t : T (endsBlock k || empty (bySource k .targets)) =
-    subst (λ (n : ℕ). T (endsBlock n || empty (bySource n .targets))) q (all-still (k - 1) (omega arith)) in
-    go (bySource k .targets) (rw e at t)
-  where
-    go : (ps : List Place) → T (empty ps) → gathered ps v ≡ []
-    go [] t = refl
-    go (p ∷ ps) t = absurd t
+    ap (λ (ps : List Place). gathered ps v) (no-place (bySource k .targets) (rw e at (all-still k l h)))
 
 -- an instruction of a sheet that passed has targets only if it ends a block
 pub quiet : (s : List ℕ) (x : Script) → Sound s x → (k : ℕ) → flow.instructionAt (flowCode (partsOf s)) k .ends ≡ false

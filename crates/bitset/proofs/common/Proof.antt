@@ -1,19 +1,22 @@
 -- `bitset::common` meets its contract: after k turns `both` is not 0 exactly if the first k words have a slot in common. Assumes nothing.
+use mathlib.Core.Bool.{not}
 use Prim.Native.Nat.{_-_}
 use native.Mathlib.Omega.{arith}
-use Rattle.bitset.proofs.LoopLaws.{Shared, shared-none, shared-more, shared-all}
+use lib.Dec.{eqb}
+use Rattle.bitset.specs.Sets.{common}
+use Rattle.bitset.proofs.LoopLaws.{Compared, compared-none, compared-more, compared-all, tells-common}
 use borrow.Author.Needs.{needs}
 use Rattle.bitset.proofs.common.Statement.{statement}
 use Rattle.bitset.proofs.common.Tie as tie
 
 abbrev Inv-loop : tie.InvT-loop
-Inv-loop a i j w both₀ k₀ both k = Shared a i j w k both
+Inv-loop a i j w both₀ k₀ both k = Compared common (λ d. not (eqb d 0)) a i a j w k both
 
 abbrev μ-loop : tie.MeasureT-loop
 μ-loop a i j w both₀ k₀ both k = w - k
 
 loop-holds : tie.Need-loop-holds Inv-loop μ-loop
-loop-holds c = shared-none
+loop-holds c = compared-none tells-common
 
 add-both : tie.Need-add-both Inv-loop μ-loop
 add-both c = search needs
@@ -42,10 +45,10 @@ loop-less c = search needs
 loop-again : tie.Need-loop-again Inv-loop μ-loop
 loop-again c =
     let s = c .before .before .before .before in
-    shared-more (c .before .before .before .loop .inv) (s .pre .0) (s .pre .1) (omega arith)
+    compared-more tells-common (c .before .before .before .loop .inv) (s .pre .0) (s .pre .1) (omega arith)
 
 returns : tie.Need-returns Inv-loop μ-loop
-returns c = shared-all (c .before .loop .inv) (omega arith)
+returns c = compared-all tells-common (c .before .loop .inv) (omega arith)
 
 pub common-spec : {M : Type 1} → statement M
 common-spec =

@@ -1,5 +1,4 @@
 -- `bitset::insert` meets its contract: the store is a store into the words from base on. Assumes nothing.
-use native.Mathlib.Omega.{arith}
 use denote.Ref.{now}
 use lib.Bits.{bitOr}
 use Rattle.bitset.specs.Sets.{inserted}
@@ -31,7 +30,7 @@ returns : tie.Need-returns
 unfolding insertedAt inserted
 returns c =
     let a = c .before .args in
-    put-slot bitOr (now (a .words)) (a .base) (a .slot) (omega arith)
+    put-slot bitOr (now (a .words)) (a .base) (a .slot)
 
 pub insert-spec : {M : Type 1} → statement M
 insert-spec =

@@ -1,6 +1,5 @@
 -- `bitset::remove` meets its contract: the store is a store into the words from base on. Assumes nothing.
 use Prim.Native.Nat.{_-_}
-use native.Mathlib.Omega.{arith}
 use denote.Ref.{now}
 use lib.Bits.{bitAnd}
 use Rattle.bitset.specs.Sets.{ones, removed}
@@ -32,7 +31,7 @@ returns : tie.Need-returns
 unfolding removedAt removed
 returns c =
     let a = c .before .args in
-    put-slot (λ x m. bitAnd x (ones - m)) (now (a .words)) (a .base) (a .slot) (omega arith)
+    put-slot (λ x m. bitAnd x (ones - m)) (now (a .words)) (a .base) (a .slot)
 
 pub remove-spec : {M : Type 1} → statement M
 remove-spec =

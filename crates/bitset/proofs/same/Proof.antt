@@ -1,19 +1,21 @@
 -- `bitset::same` meets its contract: after k turns `differ` is 0 exactly if the first k words are the same. Assumes nothing.
 use Prim.Native.Nat.{_-_}
 use native.Mathlib.Omega.{arith}
-use Rattle.bitset.proofs.LoopLaws.{Compared, compared-none, compared-more, compared-all}
+use lib.Dec.{eqb}
+use Rattle.bitset.specs.Sets.{same}
+use Rattle.bitset.proofs.LoopLaws.{Compared, compared-none, compared-more, compared-all, tells-same}
 use borrow.Author.Needs.{needs}
 use Rattle.bitset.proofs.same.Statement.{statement}
 use Rattle.bitset.proofs.same.Tie as tie
 
 abbrev Inv-loop : tie.InvT-loop
-Inv-loop a i b j w differ₀ k₀ differ k = Compared a i b j w k differ
+Inv-loop a i b j w differ₀ k₀ differ k = Compared same (λ d. eqb d 0) a i b j w k differ
 
 abbrev μ-loop : tie.MeasureT-loop
 μ-loop a i b j w differ₀ k₀ differ k = w - k
 
 loop-holds : tie.Need-loop-holds Inv-loop μ-loop
-loop-holds c = compared-none
+loop-holds c = compared-none tells-same
 
 add-differ : tie.Need-add-differ Inv-loop μ-loop
 add-differ c = search needs
@@ -42,10 +44,10 @@ loop-less c = search needs
 loop-again : tie.Need-loop-again Inv-loop μ-loop
 loop-again c =
     let s = c .before .before .before .before in
-    compared-more (c .before .before .before .loop .inv) (s .pre .0) (s .pre .1) (omega arith)
+    compared-more tells-same (c .before .before .before .loop .inv) (s .pre .0) (s .pre .1) (omega arith)
 
 returns : tie.Need-returns Inv-loop μ-loop
-returns c = compared-all (c .before .loop .inv) (omega arith)
+returns c = compared-all tells-same (c .before .loop .inv) (omega arith)
 
 pub same-spec : {M : Type 1} → statement M
 same-spec =

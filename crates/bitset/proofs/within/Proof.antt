@@ -1,19 +1,21 @@
 -- `bitset::within` meets its contract: after k turns `lacking` is 0 exactly if no slot of the first k words is lacking. Assumes nothing.
 use Prim.Native.Nat.{_-_}
 use native.Mathlib.Omega.{arith}
-use Rattle.bitset.proofs.LoopLaws.{Covered, covered-none, covered-more, covered-all}
+use lib.Dec.{eqb}
+use Rattle.bitset.specs.Sets.{within}
+use Rattle.bitset.proofs.LoopLaws.{Compared, compared-none, compared-more, compared-all, tells-within}
 use borrow.Author.Needs.{needs}
 use Rattle.bitset.proofs.within.Statement.{statement}
 use Rattle.bitset.proofs.within.Tie as tie
 
 abbrev Inv-loop : tie.InvT-loop
-Inv-loop a i j w lacking₀ k₀ lacking k = Covered a i j w k lacking
+Inv-loop a i j w lacking₀ k₀ lacking k = Compared within (λ d. eqb d 0) a i a j w k lacking
 
 abbrev μ-loop : tie.MeasureT-loop
 μ-loop a i j w lacking₀ k₀ lacking k = w - k
 
 loop-holds : tie.Need-loop-holds Inv-loop μ-loop
-loop-holds c = covered-none
+loop-holds c = compared-none tells-within
 
 add-lacking : tie.Need-add-lacking Inv-loop μ-loop
 add-lacking c = search needs
@@ -51,10 +53,10 @@ loop-less c = search needs
 loop-again : tie.Need-loop-again Inv-loop μ-loop
 loop-again c =
     let s = c .before .before .before .before .before in
-    covered-more (c .before .before .before .before .loop .inv) (s .pre .0) (s .pre .1) (omega arith)
+    compared-more tells-within (c .before .before .before .before .loop .inv) (s .pre .0) (s .pre .1) (omega arith)
 
 returns : tie.Need-returns Inv-loop μ-loop
-returns c = covered-all (c .before .loop .inv) (omega arith)
+returns c = compared-all tells-within (c .before .loop .inv) (omega arith)
 
 pub within-spec : {M : Type 1} → statement M
 within-spec =

@@ -4,9 +4,8 @@ use denote.Ref.{now}
 use borrow.Author.Needs.{needs}
 use Rattle.operands.specs.Instructions.{valuesOf, nth}
 use Rattle.operands.specs.Operands.{inputsOf}
-use Rattle.operands.specs.declared.instruction.Instruction.{Instruction}
 use Rattle.operands_c.specs.Exports.{input, numberOf}
-use Rattle.operands_c.proofs.ParseLaws.{parsed-bad, parsed-whole, parsed-is, parsed-readable}
+use Rattle.operands_c.proofs.ParseLaws.{parsed-bad, parsed-is, parsed-readable}
 use Rattle.operands_c.proofs.kagari_input.Statement.{statement}
 use Rattle.operands_c.proofs.kagari_input.Tie as tie
 
@@ -22,7 +21,7 @@ enum-told c = search needs
 returns : tie.Need-returns
 unfolding input
 returns c =
-    rw (parsed-bad (c .before .before .before .before .args .kind) (now (c .before .before .before .before .args .body)) _ (c .before .before .parse .ensures) (c .enum-told .given .1))
+    parsed-bad (c .before .before .before .before .args .kind) (now (c .before .before .before .before .args .body)) _ (c .before .before .parse .ensures) (c .enum-told .given .1) _
 
 slot-input-requires : tie.Need-slot-input-requires
 slot-input-requires c κs =
@@ -35,8 +34,9 @@ returns-2 : tie.Need-returns-2
 unfolding input valuesOf
 returns-2 c =
     let a = c .before .before .before .before .before .before .before .args in
-    rw (parsed-whole (a .kind) (now (a .body)) _ (c .before .before .before .before .before .parse .ensures) _ (c .before .before .before .i .given .1))
-    (c .slot-number .ensures ∙ ap numberOf (c .before .slot-input .ensures) ∙ ap (λ (i : Instruction). numberOf (nth (inputsOf (i .pattern .kind) (valuesOf (now (a .body)) i)) (a .k))) (parsed-is (a .kind) (now (a .body)) _ (c .before .before .before .before .before .parse .ensures) _ (c .before .before .before .i .given .1)))
+    c .slot-number .ensures ∙ ap numberOf (c .before .slot-input .ensures)
+    ∙ parsed-is (a .kind) (now (a .body)) _ (c .before .before .before .before .before .parse .ensures) _ (c .before .before .before .i .given .1)
+    (λ i. numberOf (nth (inputsOf (i .pattern .kind) (valuesOf (now (a .body)) i)) (a .k)))
 
 pub kagari-input-spec : {M : Type 1} → statement M
 kagari-input-spec =

@@ -4,9 +4,8 @@ use denote.Ref.{now}
 use borrow.Author.Needs.{needs}
 use Rattle.operands.specs.Instructions.{valuesOf, nth}
 use Rattle.operands.specs.Operands.{targetsOf}
-use Rattle.operands.specs.declared.instruction.Instruction.{Instruction}
 use Rattle.operands_c.specs.Exports.{target, numberOf}
-use Rattle.operands_c.proofs.ParseLaws.{parsed-bad, parsed-whole, parsed-is, parsed-readable}
+use Rattle.operands_c.proofs.ParseLaws.{parsed-bad, parsed-is, parsed-readable}
 use Rattle.operands_c.proofs.kagari_target.Statement.{statement}
 use Rattle.operands_c.proofs.kagari_target.Tie as tie
 
@@ -22,7 +21,7 @@ enum-told c = search needs
 returns : tie.Need-returns
 unfolding target
 returns c =
-    rw (parsed-bad (c .before .before .before .before .args .kind) (now (c .before .before .before .before .args .body)) _ (c .before .before .parse .ensures) (c .enum-told .given .1))
+    parsed-bad (c .before .before .before .before .args .kind) (now (c .before .before .before .before .args .body)) _ (c .before .before .parse .ensures) (c .enum-told .given .1) _
 
 target-requires : tie.Need-target-requires
 target-requires c κs =
@@ -35,8 +34,9 @@ returns-2 : tie.Need-returns-2
 unfolding target valuesOf
 returns-2 c =
     let a = c .before .before .before .before .before .before .before .args in
-    rw (parsed-whole (a .kind) (now (a .body)) _ (c .before .before .before .before .before .parse .ensures) _ (c .before .before .before .i .given .1))
-    (c .target-number .ensures ∙ ap numberOf (c .before .target .ensures) ∙ ap (λ (i : Instruction). numberOf (nth (targetsOf (i .pattern .kind) (valuesOf (now (a .body)) i)) (a .k))) (parsed-is (a .kind) (now (a .body)) _ (c .before .before .before .before .before .parse .ensures) _ (c .before .before .before .i .given .1)))
+    c .target-number .ensures ∙ ap numberOf (c .before .target .ensures)
+    ∙ parsed-is (a .kind) (now (a .body)) _ (c .before .before .before .before .before .parse .ensures) _ (c .before .before .before .i .given .1)
+    (λ i. numberOf (nth (targetsOf (i .pattern .kind) (valuesOf (now (a .body)) i)) (a .k)))
 
 pub kagari-target-spec : {M : Type 1} → statement M
 kagari-target-spec =

@@ -9,9 +9,9 @@ use borrow.Author.Needs.{needs}
 use borrow.Author.Tests.{le-leb, lt-leb, eq-eqb, ne-eqb}
 use Rattle.operands.specs.Patterns.{fits}
 use Rattle.operands.specs.declared.pattern.Pattern.{Pattern}
+use Rattle.operands.proofs.PatternLaws.{pattern-is}
 use Rattle.operands_c.specs.Exports.{wellFormed, parse}
 use Rattle.operands_c.specs.declared.Parsed.the-variants.{Is}
-use Rattle.operands_c.proofs.ParseLaws.{known-is}
 use Rattle.operands_c.proofs.parse.Statement.{statement}
 use Rattle.operands_c.proofs.parse.Tie as tie
 
@@ -42,7 +42,7 @@ returns-4 c =
     let b = now (c .before .before .before .before .before .before .before .args .body) in
     let e : fits (c .before .before .before .before .before .before .before .args .kind) (length b / 4) ≡ true = ap (λ (n : ℕ). fits n (length b / 4)) (sym (c .before .before .of .ensures .0)) ∙ sym (c .before .fits2 .ensures) ∙ c .if4 .taken in
     rw (le-leb 1 (c .before .before .before .before .before .before .before .args .kind) (omega arith), le-leb (c .before .before .before .before .before .before .before .args .kind) 41 (omega arith), eq-eqb (length b % 4) 0 (omega arith), e)
-    (ap (λ (p : Pattern). Is (record { pattern = p; body = 0; fields = length b / 4 })) (known-is _ _ (c .before .before .of .ensures .0) (c .before .before .of .ensures .1)))
+    (ap (λ (p : Pattern). Is (record { pattern = p; body = 0; fields = length b / 4 })) (pattern-is _ _ (c .before .before .of .ensures .0) (c .before .before .of .ensures .1)))
 
 returns-5 : tie.Need-returns-5
 unfolding parse wellFormed

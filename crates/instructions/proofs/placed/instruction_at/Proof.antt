@@ -4,7 +4,8 @@ use native.Mathlib.Omega.{arith}
 use denote.Ref.{now}
 use Rattle.format.specs.Heads.{kindAt}
 use Rattle.format.proofs.HeadLaws.{lies}
-use Rattle.instructions.proofs.PlacedLaws.{pattern-is, placed-made}
+use Rattle.operands.proofs.PatternLaws.{pattern-is}
+use Rattle.instructions.proofs.PlacedLaws.{placed-made}
 use Rattle.instructions.proofs.placed.instruction_at.Statement.{statement}
 use Rattle.instructions.proofs.placed.instruction_at.Tie as tie
 

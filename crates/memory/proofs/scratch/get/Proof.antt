@@ -27,7 +27,7 @@ shared-slice-read-result c =
 returns : tie.Need-returns
 returns c =
     let b = c .before .before .before in
-    place-word (b .pre .1) (c .before .scratch-start .ensures) (now (b .args .s))
+    place-word (now (b .args .s)) (b .pre .0) (b .pre .1) (c .before .scratch-start .ensures)
 
 pub get-spec : {M : Type 1} → statement M
 get-spec =

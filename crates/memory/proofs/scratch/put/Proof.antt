@@ -30,7 +30,7 @@ same-length c = search needs
 returns : tie.Need-returns
 returns c =
     let b = c .before .before in
-    place-store (b .pre .1) (c .scratch-start .ensures) (now (b .args .s)) (b .args .v)
+    place-store (now (b .args .s)) (b .pre .0) (b .pre .1) (c .scratch-start .ensures) (b .args .v)
 
 pub put-spec : {M : Type 1} → statement M
 put-spec =
