@@ -1,16 +1,10 @@
 -- The block list as structs, from the words of scratch.
-use mathlib.Core.List.{List, [], _∷_}
 use Prim.Native.Nat.{ℕ, _+_, _*_, _^_, _%_}
 use lib.Dec.{ltb}
 use Rattle.dataflow.specs.Lists.{pick}
 use Rattle.memory.specs.Cells.{Mem, word}
 use Rattle.memory.specs.Names.{startCell, endCell, reachableCell, successorCountCell, successorCell}
 use Rattle.block_records.specs.declared.Block.{Block}
-
--- a struct's six numbers, in their order
-abbrev pub numbersOf : Block → List ℕ
-numbersOf b =
-    b .start ∷ b .end ∷ b .reachable ∷ b .«successor_count» ∷ b .«successor_0» ∷ b .«successor_1» ∷ []
 
 -- block i from its words, each cut to 32 bits; the words of a script that passed fit
 abbrev pub blockIn : Mem → ℕ → Block

@@ -23,6 +23,7 @@ use Rattle.memory.specs.declared.layout.Layout.{Layout}
 use Rattle.sheet.specs.declared.script.Script.{Script}
 use Rattle.sheet.specs.Decode.{partsOf}
 use Rattle.script.specs.Script.{parameterIn, hostIn}
+use Rattle.edges.proofs.EdgeLaws.{flag-yes, flag-no}
 use Rattle.solver.specs.declared.direction.Direction.the-variants.{Initialization, Liveness}
 use Rattle.solver.specs.Transfer.{runningRow, gathered}
 use Rattle.answer.specs.Words.{Means}
@@ -136,19 +137,11 @@ module _ {s : List ℕ} {x : Script} {y : Layout} {c place : ℕ} {m t : Mem} (h
 
   -- it is not 0 if the block is reachable
   pub is-reached : (v ≡ 0 → ⊥) → reachable (codeOf s) c ≡ true
-  is-reached ne = go (reachable (codeOf s) c) mark-is
-    where
-      go : (r : Bool) → v ≡ flag r → r ≡ true
-      go true q = refl
-      go false q = absurd (ne q)
+  is-reached ne = flag-yes (reachable (codeOf s) c) (λ q. ne (mark-is ∙ q))
 
   -- it is 0 if not
   not-reached : v ≡ 0 → reachable (codeOf s) c ≡ false
-  not-reached z = go (reachable (codeOf s) c) mark-is
-    where
-      go : (r : Bool) → v ≡ flag r → r ≡ false
-      go false q = refl
-      go true q = absurd (let one : v ≡ 1 = q in omega arith)
+  not-reached z = flag-no (reachable (codeOf s) c) (sym mark-is ∙ z)
 
   -- and then it passes, and nothing changes
   pub block-passed : (l : Limits) (b : FlowBudget) → v ≡ 0 → BlockChecked s x y l b c place m m t t (Passed place b)

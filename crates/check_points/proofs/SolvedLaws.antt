@@ -1,8 +1,8 @@
 -- What stays while the blocks are checked, and that a gathered row stands for the set at a block's entry or exit. Assumes nothing.
-use mathlib.Core.Path.{_≡_, ap, _∙_}
+use mathlib.Core.Path.{_≡_, sym, ap, subst, _∙_}
 use mathlib.Core.Bool.{Bool}
 use mathlib.Core.List.{List}
-use Prim.Native.Nat.{ℕ, _*_, _^_, _<_}
+use Prim.Native.Nat.{ℕ, _+_, _*_, _^_, _<_}
 use native.Mathlib.Omega.{arith}
 use lib.ListN.{length, getD}
 use Rattle.bitset.specs.Sets.{member}
@@ -114,25 +114,26 @@ gather-others Liveness {y} {m} ws e =
 pub solved-connected : {s : List ℕ} {x : Script} {y : Layout} {m t : Mem} → Solved s x y m t → Connected y m
 solved-connected p = connected (p .scripted) (p .flows)
 
+-- a row that was stored stands for what its words stand for
+pub stored-means : (y : Layout) (l : List ℕ) (w k : ℕ) (ws : List ℕ) (f : ℕ → Bool) {m′ : Mem} → k < 22 + 4 * y .blocks
+    → m′ ≡ storeCell (scratch y l) k ws → Means w ws f → Means w (cell m′ k) f
+stored-means y l w k ws f lt e h =
+    subst (λ (v : List ℕ). Means w v f)
+    (sym (ap (λ (z : Mem). cell z k) e ∙ cell-store-same (scratch y l) k ws (omega (arith, scratch-length y l)))) h
+
 module _ {s : List ℕ} {x : Script} {y : Layout} (l u : List ℕ) (room : Room y (length l)) (fits : (i : ℕ) → getD l i 0 < 2 ^ 64)
     (more : SetsRoom y (length u)) (fit : (i : ℕ) → getD u i 0 < 2 ^ 64) (p : Solved s x y (scratch y l) (sets y u)) (c : ℕ) (lc : c < y .blocks)
     {m′ : Mem} where
   -- the running state stands for what is initialized at the block's entry
   pub incoming-means : m′ ≡ storeCell (scratch y l) (runningRow Initialization y) (gathered Initialization y (scratch y l) (sets y u) c)
       → Means (y .words) (cell m′ (stateRow (y .blocks))) (initEntry (codeOf s) (parameterIn (partsOf s)) (y .words) c)
-  incoming-means e i li =
-      ap (λ (z : Mem). member (cell z (stateRow (y .blocks))) i) e
-      ∙ ap (λ (ws : List ℕ). member ws i)
-      (cell-store-same (scratch y l) (stateRow (y .blocks)) (gathered Initialization y (scratch y l) (sets y u) c)
-      (omega (arith, scratch-length y l)))
-      ∙ incoming-bits (p .scripted) (p .flows) (λ k r. row-words l room r fits) (sets y u) (λ k r. sets-row-words u more r fit) c lc (p .sets) i li
+  incoming-means e =
+      stored-means y l (y .words) (stateRow (y .blocks)) _ _ (omega arith) e
+      (incoming-bits (p .scripted) (p .flows) (λ k r. row-words l room r fits) (sets y u) (λ k r. sets-row-words u more r fit) c lc (p .sets))
 
   -- the running live set stands for what is live at its exit
   pub live-out-means : m′ ≡ storeCell (scratch y l) (runningRow Liveness y) (gathered Liveness y (scratch y l) (sets y u) c)
       → Means (y .words) (cell m′ (liveStateRow (y .blocks))) (liveExit (codeOf s) (parameterIn (partsOf s)) (y .words) c)
-  live-out-means e i li =
-      ap (λ (z : Mem). member (cell z (liveStateRow (y .blocks))) i) e
-      ∙ ap (λ (ws : List ℕ). member ws i)
-      (cell-store-same (scratch y l) (liveStateRow (y .blocks)) (gathered Liveness y (scratch y l) (sets y u) c)
-      (omega (arith, scratch-length y l)))
-      ∙ live-out-bits (p .scripted) (p .flows) (λ k r. row-words l room r fits) (sets y u) (λ k r. sets-row-words u more r fit) c lc (p .sets) i li
+  live-out-means e =
+      stored-means y l (y .words) (liveStateRow (y .blocks)) _ _ (omega arith) e
+      (live-out-bits (p .scripted) (p .flows) (λ k r. row-words l room r fits) (sets y u) (λ k r. sets-row-words u more r fit) c lc (p .sets))

@@ -6,16 +6,13 @@ use mathlib.Core.List.{List, [], _∷_, _++_, append-assoc}
 use Prim.Native.Nat.{ℕ, suc, _+_, _-_, _≤_, _<_}
 use native.Mathlib.Nat.{add-zero, zero-add}
 use native.Mathlib.Omega.{arith}
-use lib.ListN.{length, getD, length-map, length-append}
+use lib.ListN.{length, getD, length-map}
 use Rattle.dataflow.specs.Lists.{pick, range, keep}
-use Rattle.dataflow.specs.Analyses.{liveAlong}
-use Rattle.dataflow.specs.Blocks.{pointsOf}
 use Rattle.dataflow.specs.Code as flow
-use Rattle.dataflow.specs.Code.{body, blockGraph, outside}
-use Rattle.dataflow.specs.Results.{blockCount, reachable, liveExit}
+use Rattle.dataflow.specs.Code.{body, outside}
+use Rattle.dataflow.specs.Results.{reachable, liveExit}
 use Rattle.dataflow.specs.Verdict.{awaitAt}
-use Rattle.dataflow.proofs.Lists.{map-at, keep-both}
-use Rattle.dataflow.proofs.Leaders.{blocks-cover}
+use Rattle.dataflow.proofs.Lists.{map-at}
 use Rattle.operands.specs.Kinds.{isAwait}
 use Rattle.memory.specs.Cells.{Mem, word}
 use Rattle.memory.specs.Names.{startCell, endCell}
@@ -28,6 +25,7 @@ use Rattle.script.specs.Script.{flowInstruction, flowCode, parameterIn}
 use Rattle.script.proofs.ScriptLaws.{code-length, checked}
 use Rattle.blocks.proofs.CodeLaws.{spans-at}
 use Rattle.verdict.specs.Points.{Point, awaitPoints, blockPoints, points}
+use Rattle.verdict.proofs.PointLaws as listed
 use Rattle.check_points.specs.CheckPoints.{codeOf, Solved}
 
 -- ---- where a block lies
@@ -55,41 +53,8 @@ spans {s} {x} {y} p c lc {start} {end} e f =
 module _ (code : List flow.Instruction) (parameter : ℕ → Bool) where
   -- a point for each await
   pub points-length : (g : ℕ → Bool) (is : List ℕ) → length (awaitPoints code parameter g is) ≡ length (keep (awaitAt code) is)
-  unfolding awaitPoints
-  points-length g [] = refl
-  points-length g (i ∷ is) = go (awaitAt code i) (points-length g is)
-    where
-      point : Point
-      point = record { instruction = i; live = λ s. liveAlong (flow.program code parameter) s (g s) (i ∷ is) }
-
-      go : (t : Bool) → length (awaitPoints code parameter g is) ≡ length (keep (awaitAt code) is)
-          → length (pick t (point ∷ awaitPoints code parameter g is) (awaitPoints code parameter g is))
-          ≡ length (pick t (i ∷ keep (awaitAt code) is) (keep (awaitAt code) is))
-      go true e = ap suc e
-      go false e = e
-
-  -- ---- the awaits of lists one after the other
-
-  -- the points of blocks are no more than the awaits of their instructions
-  blocks-few : (words : ℕ) (cs : List ℕ) → length (blockPoints code parameter words cs) ≤ length (keep (awaitAt code) (pointsOf (blockGraph code) cs))
-  unfolding blockPoints
-  blocks-few words [] = omega arith
-  blocks-few words (c ∷ cs) = go (reachable code c) (blocks-few words cs)
-    where
-      facts : List Point
-      facts = awaitPoints code parameter (liveExit code parameter words c) (body code c)
-
-      go : (t : Bool) → length (blockPoints code parameter words cs) ≤ length (keep (awaitAt code) (pointsOf (blockGraph code) cs))
-          → length (pick t facts [] ++ blockPoints code parameter words cs)
-          ≤ length (keep (awaitAt code) (body code c ++ pointsOf (blockGraph code) cs))
-      go true h = omega (
-        arith,
-        h,
-        length-append facts (blockPoints code parameter words cs),
-        points-length (liveExit code parameter words c) (body code c),
-        keep-both (awaitAt code) (body code c) (pointsOf (blockGraph code) cs),
-      )
-      go false h = omega (arith, h, keep-both (awaitAt code) (body code c) (pointsOf (blockGraph code) cs))
+  points-length g is =
+      sym (length-map (awaitPoints code parameter g is) (λ (pt : Point). pt .instruction)) ∙ ap length (listed.await-instructions code parameter g is)
 
   -- ---- the blocks in turn
 
@@ -142,10 +107,4 @@ code-awaits s x h =
 
 -- the points are no more than the awaits
 pub points-few : (s : List ℕ) (x : Script) → Sound s x → (words : ℕ) → length (points (codeOf s) (parameterIn (partsOf s)) words) ≤ x .awaits
-unfolding points
-points-few s x h words = omega (
-  arith,
-  blocks-few (codeOf s) (parameterIn (partsOf s)) words (range 0 (blockCount (codeOf s))),
-  ap (λ (l : List ℕ). length (keep (awaitAt (codeOf s)) l)) (blocks-cover (codeOf s)),
-  code-awaits s x h,
-)
+points-few s x h words = omega (arith, listed.points-few (codeOf s) (parameterIn (partsOf s)) words, code-awaits s x h)

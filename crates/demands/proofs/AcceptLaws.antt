@@ -1,7 +1,7 @@
 -- An acceptance says what demands 2 and 3 ask. Assumes nothing.
 use mathlib.Core.Path.{_≡_, refl, sym, ap, subst, _∙_}
 use mathlib.Core.Bool.{Bool, true, false, _||_}
-use mathlib.Core.List.{List, [], _∷_, _++_, map, List·Memᴰ, List·Memᴰ·head, List·Memᴰ·tail, List·Memᴰ·not-nil, List·Memᴰ·cases-cons}
+use mathlib.Core.List.{List, [], _∷_, _++_, map, List·Memᴰ, List·Memᴰ·not-nil, List·Memᴰ·cases-cons, Memᴰ·map}
 use mathlib.Core.Logic.{_⊎_, inl, inr, _↔_}
 use Prim.Native.Nat.{ℕ, zero, suc, _+_, _*_, _<_}
 use native.Mathlib.Decide.{decLt}
@@ -37,18 +37,12 @@ use Rattle.dataflow.specs.Lists.{range}
 
 -- ---- lists
 
--- what a point of a list is mapped to is in the mapped list
-mapped : (f : Point → ℕ) (d : Point) (l : List Point) (k : ℕ) → k < length l → List·Memᴰ (f (getD l k d)) (map f l)
-mapped f d [] k lt = absurd (omega arith)
-mapped f d (a ∷ l) zero lt = List·Memᴰ·head refl
-mapped f d (a ∷ l) (suc k) lt = List·Memᴰ·tail (mapped f d l k (omega arith))
-
 -- in an ascending list earlier numbers are lower
 ascending-at : (f : Point → ℕ) (d : Point) (l : List Point) → Ascending (map f l) → (j k : ℕ) → j < k → k < length l
     → f (getD l j d) < f (getD l k d)
 ascending-at f d [] h j k lt inside = absurd (omega arith)
 ascending-at f d (a ∷ l) h j zero lt inside = absurd (omega arith)
-ascending-at f d (a ∷ l) h zero (suc k) lt inside = h .0 (f (getD l k d)) (mapped f d l k (omega arith))
+ascending-at f d (a ∷ l) h zero (suc k) lt inside = h .0 (f (getD l k d)) (Memᴰ·map f (mem-getD l k d (omega arith)))
 ascending-at f d (a ∷ l) h (suc j) (suc k) lt inside = ascending-at f d l (h .1) j k (omega arith) (omega arith)
 
 -- where a point of a list stands

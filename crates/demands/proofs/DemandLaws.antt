@@ -3,7 +3,7 @@ use mathlib.Core.Path.{_≡_, refl, sym, ap, subst, _∙_}
 use mathlib.Core.Bool.{true}
 use mathlib.Core.List.{List, _++_}
 use mathlib.Core.Logic.{_⊎_, inl, inr}
-use mathlib.Core.Option.{Option, none, some}
+use mathlib.Core.Option.{Option, none, Option·none-ne-some}
 use Prim.Native.Nat.{ℕ, _+_, _*_, _/_, _≤_}
 use native.Mathlib.Omega.{arith}
 use lib.ListN.{length}
@@ -56,9 +56,6 @@ use Rattle.demands.proofs.AcceptLaws.{
   unreached-initialized-words,
   unreached-live-words,
 }
-
-none-some : (r : Refusal) → _≡_ {A = Option Refusal} none (some r) → ⊥
-none-some r e = let o : _≡_ {A = ℕ} 0 1 = cc in absurd (omega arith)
 
 -- ---- a sheet that passed
 
@@ -171,7 +168,7 @@ module _ (s : List ℕ) (l : Limits) (n : Lengths) (b : FlowBudget) where
 
     told : (a : Outcome) → Due s l n b a → refusal s ≡ none → ¬ (Given NoRoom a) → ¬ (Given StateLimit a) → ¬ (Given WorkLimit a)
         → ¬ (Given FactsLimit a) → Told a
-    told a (bad-sheet r q) p room state work facts = let z : _≡_ {A = Option Refusal} none (some r) = sym p ∙ q in absurd (none-some r z)
+    told a (bad-sheet r q) p room state work facts = absurd (Option·none-ne-some r (sym p ∙ q))
     told a (no-room-early q lt) p room state work facts = absurd (room (_, _, refl))
     told a (no-room left g le q) p room state work facts = absurd (room (_, _, refl))
     told a (state-limit left g lt) p room state work facts = absurd (state (_, _, refl))

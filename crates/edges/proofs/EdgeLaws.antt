@@ -1,5 +1,5 @@
 -- Words as marks, what the words of a graph hold stays where its two cells stay, and what a cleared cell holds. Assumes nothing.
-use mathlib.Core.Path.{_≡_, refl, ap, _∙_}
+use mathlib.Core.Path.{_≡_, refl, sym, ap, _∙_}
 use mathlib.Core.Bool.{Bool, true, false}
 use mathlib.Core.Logic.{_≢_}
 use mathlib.Core.List.{List}
@@ -27,6 +27,12 @@ marked-no v e = ap marked e
 pub marked-flag : (t : Bool) → marked (flag t) ≡ t
 marked-flag true = refl
 marked-flag false = refl
+
+pub flag-yes : (t : Bool) → (flag t ≡ 0 → ⊥) → t ≡ true
+flag-yes t ne = sym (marked-flag t) ∙ marked-yes (flag t) ne
+
+pub flag-no : (t : Bool) → flag t ≡ 0 → t ≡ false
+flag-no t e = sym (marked-flag t) ∙ marked-no (flag t) e
 
 pub flag-few : (t : Bool) → flag t ≤ 1
 flag-few true = omega arith

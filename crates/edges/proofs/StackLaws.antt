@@ -19,7 +19,7 @@ use Rattle.memory.proofs.CellLaws.{Sized, sized-store, word-store-other}
 use Rattle.memory.proofs.ScratchLaws.{word-put, place-blocks}
 use Rattle.edges.specs.Edges.{Holds, Cleared}
 use Rattle.edges.specs.Stack.{stackOf, Sweeps, Begun, OnlySearch}
-use Rattle.edges.proofs.EdgeLaws.{cell-kept, holds-kept}
+use Rattle.edges.proofs.EdgeLaws.{flag-yes, flag-no, cell-kept, holds-kept}
 
 -- ---- only the two cells of the search change
 pub search-none : {m : Mem} → OnlySearch m m
@@ -47,25 +47,16 @@ stack-same : (m m′ : Mem) (n : ℕ) → ((i : ℕ) → i < n → word m′ sta
 stack-same m m′ zero f = refl
 stack-same m m′ (suc n) f = ap₂ (λ (b : ℕ) (l : List ℕ). b ∷ l) (f n (omega arith)) (stack-same m m′ n (λ i lt. f i (omega arith)))
 
--- ---- marks
-marked : (t : Bool) → (flag t ≡ 0 → ⊥) → t ≡ true
-marked true ne = refl
-marked false ne = absurd (ne refl)
-
-unmarked : (t : Bool) → flag t ≡ 0 → t ≡ false
-unmarked true e = absurd (omega arith)
-unmarked false e = refl
-
 -- ---- a block that joins unless it is marked
 module _ {y : Layout} {top block v : ℕ} {r : Sweep} {m : Mem} (s : Sweeps y top r m) (lt : block < y .blocks)
     (ev : v ≡ word m reachableCell block) where
   pub enter-marked : (next : ℕ → List ℕ) → (v ≡ 0 → ⊥) → Sweeps y top (add next (getD (r .visited) block false) block r) m
   enter-marked next ne =
       subst (λ (t : Bool). Sweeps y top (add next t block r) m)
-      (sym (marked (getD (r .visited) block false) (λ q. ne (ev ∙ s .marks block lt ∙ q)))) s
+      (sym (flag-yes (getD (r .visited) block false) (λ q. ne (ev ∙ s .marks block lt ∙ q)))) s
 
   fresh : v ≡ 0 → getD (r .visited) block false ≡ false
-  fresh z = unmarked (getD (r .visited) block false) (sym (s .marks block lt) ∙ sym ev ∙ z)
+  fresh z = flag-no (getD (r .visited) block false) (sym (s .marks block lt) ∙ sym ev ∙ z)
 
   less : v ≡ 0 → suc (unvisited (set (r .visited) block true)) ≡ unvisited (r .visited)
   less z = unvisited-set (r .visited) block (omega (arith, s .long)) (fresh z)

@@ -37,17 +37,14 @@ use Rattle.examine.proofs.ListingLaws.{listing}
 -- ---- `accept`
 
 -- its numbers fit
-pub entries-small : (y : Layout) (awaits : ℕ) (v : List ℕ) → Acceptable y awaits v → awaits * (1 + y .words) < 2 ^ 64
-entries-small y awaits v h =
-    let words : 1 + y .words ≤ 1025 = omega (arith, h .room .words) in
-    let few : awaits ≤ 65536 = omega (arith, h .few, h .room .awaits) in
-    omega (arith, mul-le-mul few words)
-
 pub answer-small : (y : Layout) (awaits : ℕ) (v : List ℕ) → Acceptable y awaits v → answerWords y awaits < 2 ^ 64
 answer-small y awaits v h =
     let words : 1 + y .words ≤ 1025 = omega (arith, h .room .words) in
     let few : awaits ≤ 65536 = omega (arith, h .few, h .room .awaits) in
     omega (arith, mul-le-mul few words, mul-le-mul (h .room .blocks) (h .room .words))
+
+pub entries-small : (y : Layout) (awaits : ℕ) (v : List ℕ) → Acceptable y awaits v → awaits * (1 + y .words) < 2 ^ 64
+entries-small y awaits v h = omega (arith, answer-small y awaits v h)
 
 -- the words of the answer are there
 pub answer-inside : (y : Layout) (awaits : ℕ) (v : List ℕ) → Acceptable y awaits v → answerWords y awaits ≤ length v

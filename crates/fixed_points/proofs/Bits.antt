@@ -50,6 +50,10 @@ bitsOf n ws = tabulate 0 n (member ws)
 pub bits-at : (n : ℕ) (ws : List ℕ) (i : ℕ) (v : Bool) → i < n → getD (bitsOf n ws) i v ≡ member ws i
 bits-at n ws i v lt = getD-tabulate 0 n i (member ws) v lt ∙ ap (member ws) (zero-add i)
 
+-- one of a row of a table
+pub bit-at : (n : ℕ) (rows : List (List ℕ)) (v : Bool) (p i : ℕ) → p < length rows → i < n → bitAt v (map (bitsOf n) rows) p i ≡ member (getD rows p []) i
+bit-at n rows v p i lp li = ap (λ (l : List Bool). getD l i v) (map-at (bitsOf n) rows p [] [] lp) ∙ bits-at n (getD rows p []) i v li
+
 -- a table of the members is the bits
 pub bits-are : (n : ℕ) (ws : List ℕ) (f : ℕ → Bool) → ((i : ℕ) → i < n → f i ≡ member ws i) → tabulate 0 n f ≡ bitsOf n ws
 bits-are n ws f h = tabulate-among 0 n f (member ws) (λ i lo hi. h i (omega arith))
@@ -187,12 +191,6 @@ module _ {code : List Instruction} {parameter : ℕ → Bool} {y : Layout} {m : 
 
   -- ---- what the neighbors give
   module _ (rows : List (List ℕ)) (t : Table y rows) where
-    -- a bit of a row of the table
-    table-at : (v : Bool) (p i : ℕ) → p < y .blocks → i < bits → bitAt v (map (bitsOf bits) rows) p i ≡ member (getD rows p []) i
-    table-at v p i lp li =
-        ap (λ (l : List Bool). getD l i v) (map-at (bitsOf bits) rows p [] [] (omega (arith, t .count)))
-        ∙ bits-at bits (getD rows p []) i v li
-
     -- one neighbor: it keeps rows of words
     gather-words : (d : Direction) (p : ℕ) (x : List ℕ) → p < y .blocks → Words (y .words) x → Words (y .words) (gatherRow d m rows p x)
     unfolding gatherRow
@@ -212,7 +210,7 @@ module _ {code : List Instruction} {parameter : ℕ → Bool} {y : Layout} {m : 
       where
         go : (c : Bool) → member (pick (eqb (flag c) 0) x (meet x (getD rows p []))) i
             ≡ (member x i && (not c || bitAt true (map (bitsOf bits) rows) p i))
-        go true = member-meet x (getD rows p []) i ∙ ap (λ (a : Bool). member x i && a) (sym (table-at true p i lp li))
+        go true = member-meet x (getD rows p []) i ∙ ap (λ (a : Bool). member x i && a) (sym (bit-at bits rows true p i (omega (arith, t .count)) li))
         go false = sym (and-true (member x i))
 
     -- its bits backwards: joined
@@ -220,7 +218,7 @@ module _ {code : List Instruction} {parameter : ℕ → Bool} {y : Layout} {m : 
         ≡ (member x i || bitAt false (map (bitsOf bits) rows) p i)
     unfolding gatherRow
     gather-live p x lp h i li =
-        member-join x (getD rows p []) i (in-row h i li) ∙ ap (λ (a : Bool). member x i || a) (sym (table-at false p i lp li))
+        member-join x (getD rows p []) i (in-row h i li) ∙ ap (λ (a : Bool). member x i || a) (sym (bit-at bits rows false p i (omega (arith, t .count)) li))
 
     -- all neighbors: they keep rows of words
     pub gathers-words : (d : Direction) (ps : List ℕ) (x : List ℕ) → AllBelow (y .blocks) ps → Words (y .words) x

@@ -1,15 +1,14 @@
 -- What `gather` of crate `solver` computes after both rounds: the sets at a block's entry and exit, bit by bit. Assumes nothing.
-use mathlib.Core.Path.{_≡_, refl, sym, ap, ap₂, _∙_, subst}
+use mathlib.Core.Path.{_≡_, sym, ap, ap₂, _∙_, subst}
 use mathlib.Core.Bool.{Bool, true, false, not, _&&_, _||_}
-use mathlib.Core.List.{List, [], _∷_, map}
+use mathlib.Core.List.{List, [], map}
 use Prim.Native.Nat.{ℕ, _*_, _<_}
 use native.Mathlib.Omega.{arith}
-use lib.Dec.{eqb}
-use Rattle.bitset.specs.Sets.{member, meet, join, Words}
+use Rattle.bitset.specs.Sets.{member, Words}
 use Rattle.dataflow.specs.Analyses.{initialization, liveness}
 use Rattle.dataflow.specs.Code.{Instruction}
 use Rattle.dataflow.specs.Framework.{bitAt}
-use Rattle.dataflow.specs.Lists.{pick, every, some}
+use Rattle.dataflow.specs.Lists.{every, some}
 use Rattle.dataflow.specs.Results.{reachable, seed, flowGraph, initExit, initEntry, liveEntry, liveExit}
 use Rattle.dataflow.proofs.FlowGraph.{init-entry-row, live-entry-row}
 use Rattle.dataflow.proofs.Lists.{every-ext, some-ext}
@@ -17,8 +16,8 @@ use Rattle.budget.specs.declared.FlowBudget.{FlowBudget}
 use Rattle.budget.specs.declared.Limits.{Limits}
 use Rattle.budget.specs.declared.Charged.{Charged}
 use Rattle.budget.specs.declared.Charged.the-variants.{Ok}
-use Rattle.memory.specs.Cells.{Mem, cell, word}
-use Rattle.memory.specs.Names.{reachableCell, parametersRow}
+use Rattle.memory.specs.Cells.{Mem, cell}
+use Rattle.memory.specs.Names.{parametersRow}
 use Rattle.memory.specs.declared.layout.Layout.{Layout}
 use Rattle.edges.specs.Flow.{Flows}
 use Rattle.edges.proofs.FlowLaws.{Still}
@@ -26,43 +25,18 @@ use Rattle.bitset.specs.Below.{AllBelow}
 use Rattle.solver.specs.declared.direction.Direction.{Direction}
 use Rattle.solver.specs.declared.direction.Direction.the-variants.{Initialization, Liveness}
 use Rattle.solver.specs.Neighbors.{readsOf, neighbors}
-use Rattle.solver.specs.Transfer.{keptRow, entryOf, gatherOne, gatherAll, gathered}
-use Rattle.propagate.specs.Rounds.{rowsOf, gatherRow, gatherRows}
-use Rattle.propagate.proofs.Fixed.{kept-among, rows-at, rows-long}
+use Rattle.solver.specs.Transfer.{keptRow, entryOf, gathered}
+use Rattle.propagate.specs.Rounds.{rowsOf, gatherRows}
+use Rattle.propagate.proofs.Fixed.{kept-among, fixed-none, gather-all}
 use Rattle.fixed_points.specs.FixedPoints.{Scripted, Sets, Fixed}
 use Rattle.fixed_points.proofs.CodeGraph.{connected, edges-in}
 use Rattle.fixed_points.proofs.Bits.{bitsOf, below-each, Table, RowsOfWords, entry-words, entry-init, entry-live}
 use Rattle.fixed_points.proofs.Bits.{gathers-words, gathers-init, gathers-live}
-use Rattle.fixed_points.proofs.RoundLaws.{rows-bit}
+use Rattle.fixed_points.proofs.RoundLaws.{rows-bit, rows-table}
 
 -- every row of the sets buffer is of words
 abbrev pub SetsOfWords : Layout → Mem → Type 0
 SetsOfWords y t = (k : ℕ) → k < 2 * y .blocks → Words (y .words) (cell t k)
-
--- ---- gathering from the cells is gathering from the rows
-
--- one neighbor
-gather-one-rows : (d : Direction) (y : Layout) (m t : Mem) (p : ℕ) (x : List ℕ) → p < y .blocks
-    → gatherOne d m t p x ≡ gatherRow d m (rowsOf d y t) p x
-unfolding gatherOne gatherRow
-gather-one-rows Initialization y m t p x lt =
-    ap (λ (z : List ℕ). pick (eqb (word m reachableCell p) 0) x (meet x z)) (sym (rows-at Initialization y t p lt))
-gather-one-rows Liveness y m t p x lt = ap (join x) (sym (rows-at Liveness y t p lt))
-
--- all neighbors
-gather-all-rows : (d : Direction) (y : Layout) (m t : Mem) (ps : List ℕ) (x : List ℕ) → AllBelow (y .blocks) ps
-    → gatherAll d m t ps x ≡ gatherRows d m (rowsOf d y t) ps x
-unfolding gatherAll gatherRows
-gather-all-rows d y m t [] x h = refl
-gather-all-rows d y m t (p ∷ ps) x h =
-    ap (gatherAll d m t ps) (gather-one-rows d y m t p x (h .0)) ∙ gather-all-rows d y m t ps (gatherRow d m (rowsOf d y t) p x) (h .1)
-
--- the rows that a round keeps are of words
-rows-table : (d : Direction) (y : Layout) (t : Mem) → SetsOfWords y t → Table y (rowsOf d y t)
-rows-table d y t h = record {
-  count = rows-long d y t;
-  each = λ b lt. subst (Words (y .words)) (sym (rows-at d y t b lt)) (h (keptRow d b) (kept-among d b (y .blocks) lt));
-}
 
 module _ {code : List Instruction} {parameter : ℕ → Bool} {y : Layout} {m : Mem} (s : Scripted code parameter (y .words))
     (f : Flows code parameter y m) where
@@ -71,14 +45,18 @@ module _ {code : List Instruction} {parameter : ℕ → Bool} {y : Layout} {m : 
   reads-below d c lc = connected s f .ends (readsOf d) c lc
 
   module _ (w : RowsOfWords y m) (t : Mem) (h : SetsOfWords y t) (c : ℕ) (lc : c < y .blocks) where
+    -- the rows that a round keeps
+    table : (d : Direction) → Table y (rowsOf d y t)
+    table d = rows-table d y t (λ b lt. h (keptRow d b) (kept-among d b (y .blocks) lt))
+
     -- what is gathered, from the rows
     gathered-rows : (d : Direction) → gathered d y m t c ≡ gatherRows d m (rowsOf d y t) (neighbors (readsOf d) m c) (entryOf d y m c)
     unfolding gathered
-    gathered-rows d = gather-all-rows d y m t (neighbors (readsOf d) m c) (entryOf d y m c) (reads-below d c lc)
+    gathered-rows d = gather-all fixed-none t (neighbors (readsOf d) m c) (entryOf d y m c) (reads-below d c lc)
 
     -- it is a row of words
     pub gathered-words : (d : Direction) → Words (y .words) (gathered d y m t c)
-    gathered-words d = subst (Words (y .words)) (sym (gathered-rows d)) (gathers-words s f w (rowsOf d y t) (rows-table d y t h) d
+    gathered-words d = subst (Words (y .words)) (sym (gathered-rows d)) (gathers-words s f w (rowsOf d y t) (table d) d
         (neighbors (readsOf d) m c) (entryOf d y m c) (reads-below d c lc) (entry-words s f w d c))
 
     module _ (g : Sets code parameter y t) (i : ℕ) (li : i < 64 * y .words) where
@@ -86,7 +64,7 @@ module _ {code : List Instruction} {parameter : ℕ → Bool} {y : Layout} {m : 
       pub incoming-bits : member (gathered Initialization y m t c) i ≡ initEntry code parameter (y .words) c i
       incoming-bits =
           ap (λ (ws : List ℕ). member ws i) (gathered-rows Initialization)
-          ∙ gathers-init s f w (rowsOf Initialization y t) (rows-table Initialization y t h) (neighbors (readsOf Initialization) m c)
+          ∙ gathers-init s f w (rowsOf Initialization y t) (table Initialization) (neighbors (readsOf Initialization) m c)
           (entryOf Initialization y m c) (reads-below Initialization c lc) i li
           ∙ ap₂ (λ (a b : Bool). a && b) (entry-init s f w c i li) (met ∙ ap (every kept) (edges-in s f (readsOf Initialization) c lc))
           ∙ sym (init-entry-row (flowGraph code parameter (y .words) initialization) (seed code initialization) c i li)
@@ -106,7 +84,7 @@ module _ {code : List Instruction} {parameter : ℕ → Bool} {y : Layout} {m : 
       pub live-out-bits : member (gathered Liveness y m t c) i ≡ liveExit code parameter (y .words) c i
       live-out-bits =
           ap (λ (ws : List ℕ). member ws i) (gathered-rows Liveness)
-          ∙ gathers-live s f w (rowsOf Liveness y t) (rows-table Liveness y t h) (neighbors (readsOf Liveness) m c)
+          ∙ gathers-live s f w (rowsOf Liveness y t) (table Liveness) (neighbors (readsOf Liveness) m c)
           (entryOf Liveness y m c) (reads-below Liveness c lc) (entry-words s f w Liveness c) i li
           ∙ ap₂ (λ (a b : Bool). a || b) (entry-live s f w c i) (joined ∙ ap (some kept) (edges-in s f (readsOf Liveness) c lc))
         where

@@ -7,7 +7,7 @@ use Prim.Native.Nat.{ℕ, zero, suc, _+_, _*_, _-_, _≤_, _<_}
 use native.Mathlib.Omega.{arith}
 use native.Mathlib.Decide.{decLe}
 use lib.Dec.{lit<}
-use lib.ListN.{length, getD, take, replicate, length-map}
+use lib.ListN.{length, take, replicate, length-map}
 use lib.Seq.{ext-getD}
 use Rattle.bitset.specs.Sets.{ones, member, Words}
 use Rattle.bitset.proofs.SetLaws.{member-zero, member-ones, words-replicate}
@@ -18,7 +18,7 @@ use Rattle.dataflow.specs.Worklist as worklist
 use Rattle.dataflow.specs.Framework.{Framework, bitAt, solverOf, begin, enough, solution}
 use Rattle.dataflow.specs.Results.{blockCount, predecessors, swept, searched, seed, result}
 use Rattle.dataflow.specs.Charges.{visitCharges, traceCharges, propagateCharges}
-use Rattle.dataflow.proofs.Lists.{tabulate-same, map-at}
+use Rattle.dataflow.proofs.Lists.{tabulate-same}
 use Rattle.dataflow.proofs.Results.{seed-sound, result-ends}
 use Rattle.dataflow.proofs.Simulation.{Each, seen, run-seen}
 use Rattle.dataflow.proofs.Worklist.{run-more, run-fuel}
@@ -26,8 +26,8 @@ use Rattle.budget.specs.declared.FlowBudget.{FlowBudget}
 use Rattle.budget.specs.declared.Limits.{Limits}
 use Rattle.budget.specs.declared.Charged.{Charged}
 use Rattle.budget.specs.declared.Charged.the-variants.{Ok, Over}
-use Rattle.budget.specs.Budget.{charged, andCharged}
-use Rattle.budget.proofs.BudgetLaws.{charged-append}
+use Rattle.budget.specs.Budget.{charged}
+use Rattle.budget.proofs.BudgetLaws.{over-then}
 use Rattle.memory.specs.Cells.{Mem, cell}
 use Rattle.memory.specs.Names.{orderCell, reachableCell}
 use Rattle.memory.specs.Scratch.{scratchWidths}
@@ -42,13 +42,13 @@ use Rattle.solver.specs.Run.{queueOf}
 use Rattle.propagate.specs.Rounds.{rowsOf, rowSolver, beginning, roundRun, roundCharges, Propagated}
 use Rattle.propagate.proofs.RingWords.{marks-at}
 use Rattle.propagate.proofs.Fixed.{rows-at, rows-long}
-use Rattle.propagate.proofs.Visits.{chargesOf, run-charges, run-parts}
+use Rattle.propagate.proofs.Visits.{chargesOf, longer-charges}
 use Rattle.edges.specs.Edges.{marked}
 use Rattle.edges.specs.Flow.{Flows, Fresh}
 use Rattle.fixed_points.specs.FixedPoints.{Scripted}
 use Rattle.fixed_points.specs.Stages.{InOrder}
 use Rattle.fixed_points.proofs.CodeGraph.{directionOf, neighbors-are, reachable-are}
-use Rattle.fixed_points.proofs.Bits.{bitsOf, bits-at, bits-are, Table, RowsOfWords, frameOf, agrees}
+use Rattle.fixed_points.proofs.Bits.{bitsOf, bit-at, bits-are, Table, RowsOfWords, frameOf, agrees}
 
 -- ---- rows as they begin
 
@@ -95,16 +95,16 @@ module _ (d : Direction) (y : Layout) (t : Mem) where
   pub rows-bit : (v : Bool) (c i : ℕ) → c < y .blocks → i < 64 * y .words
       → bitAt v (map (bitsOf (64 * y .words)) (rowsOf d y t)) c i ≡ member (cell t (keptRow d c)) i
   rows-bit v c i lc li =
-      ap (λ (l : List Bool). getD l i v) (map-at (bitsOf (64 * y .words)) (rowsOf d y t) c [] [] (omega (arith, rows-long d y t)))
-      ∙ bits-at (64 * y .words) (getD (rowsOf d y t) c []) i v li ∙ ap (λ (l : List ℕ). member l i) (rows-at d y t c lc)
+      bit-at (64 * y .words) (rowsOf d y t) v c i (omega (arith, rows-long d y t)) li ∙ ap (λ (l : List ℕ). member l i) (rows-at d y t c lc)
+
+  -- such rows are a table if they are of words
+  pub rows-table : ((c : ℕ) → c < y .blocks → Words (y .words) (cell t (keptRow d c))) → Table y (rowsOf d y t)
+  rows-table h = record { count = rows-long d y t; each = λ c lt. subst (Words (y .words)) (sym (rows-at d y t c lt)) (h c lt) }
 
 module _ {d : Direction} {y : Layout} {t : Mem} (fresh : FreshIn d y t) where
   -- rows as they began are of words
   fresh-table : Table y (rowsOf d y t)
-  fresh-table = record {
-    count = rows-long d y t;
-    each = λ b lt. subst (Words (y .words)) (sym (rows-at d y t b lt ∙ fresh .rows b lt)) (first-fits d (y .words));
-  }
+  fresh-table = rows-table d y t (λ c lt. subst (Words (y .words)) (sym (fresh .rows c lt)) (first-fits d (y .words)))
 
   -- and seen as bits, all are the first bit
   fresh-bits : map (bitsOf (64 * y .words)) (rowsOf d y t) ≡ replicate (y .blocks) (replicate (64 * y .words) (firstBit d))
@@ -130,17 +130,9 @@ longer-over : (d : Direction) (y : Layout) (l : Limits) (b : FlowBudget) (n : �
     → charged l b (roundCharges d y k n m t) ≡ Over x → charged l b (roundCharges d y (k + j) n m t) ≡ Over x
 unfolding roundCharges roundRun
 longer-over d y l b n m t k j {x} e =
-    ap (λ (cs : List ℕ). charged l b ((y .blocks + n) ∷ cs)) further ∙ charged-append l b ((y .blocks + n) ∷ chargesOf d y l m t short) (more .0)
-    ∙ ap (λ (c : Charged). andCharged c (λ b′. charged l b′ (more .0))) e
-  where
-    short : worklist.State (List ℕ)
-    short = worklist.run (rowSolver d y m) k (beginning d y n m t)
-
-    more : (cs : List ℕ) × (chargesOf d y l m t (worklist.run (rowSolver d y m) j short) ≡ chargesOf d y l m t short ++ cs)
-    more = run-charges d y l m t j short
-
-    further : chargesOf d y l m t (worklist.run (rowSolver d y m) (k + j) (beginning d y n m t)) ≡ chargesOf d y l m t short ++ more .0
-    further = ap (chargesOf d y l m t) (run-parts (rowSolver d y m) k j (beginning d y n m t)) ∙ more .1
+    let more = longer-charges d y l m t k j (beginning d y n m t) in
+    ap (λ (cs : List ℕ). charged l b ((y .blocks + n) ∷ cs)) (more .1)
+    ∙ over-then l b ((y .blocks + n) ∷ chargesOf d y l m t (worklist.run (rowSolver d y m) k (beginning d y n m t))) (more .0) e
 
 -- ---- a ring and a state from their parts
 abbrev ringOf : List ℕ → List Bool → worklist.Ring

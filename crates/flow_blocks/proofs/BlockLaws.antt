@@ -3,7 +3,6 @@ use mathlib.Core.Path.{_≡_, refl, sym, ap, ap₂, _∙_}
 use mathlib.Core.List.{List, [], _∷_, _++_}
 use Prim.Native.Nat.{ℕ, suc, _+_, _-_, _^_, _%_, _≤_, _<_}
 use native.Mathlib.Omega.{arith}
-use borrow.Author.Tests.{lt-ltb, le-ltb}
 use lib.ListN.{length, getD, replicate}
 use Rattle.dataflow.specs.Lists.{tabulate}
 use Rattle.dataflow.proofs.Lists.{tabulate-among, tabulate-same, tabulate-append}
@@ -16,7 +15,6 @@ use Rattle.memory.specs.Cells.{Mem}
 use Rattle.memory.specs.Names.{flag}
 use Rattle.memory.specs.Scratch.{scratch}
 use Rattle.sheet.specs.declared.script.Script.{Script}
-use Rattle.sheet.specs.declared.script.Checked.the-variants as checking
 use Rattle.sheet.specs.Decode.{partsOf}
 use Rattle.sheet.specs.Checks.{scriptOf}
 use Rattle.instructions.specs.Sound.{Sound}
@@ -27,6 +25,7 @@ use Rattle.demands.proofs.DemandLaws.{accepted-sound}
 use Rattle.blocklist.specs.List.{recordIn}
 use Rattle.block_records.specs.declared.Block.{Block}
 use Rattle.block_records.specs.Records.{blockIn, zeroBlock, listedBlock}
+use Rattle.block_records.proofs.RecordLaws.{listed-in, listed-behind}
 use Rattle.examine.specs.Examine.{outcomeIn, Listing, Examines}
 use Rattle.examine.specs.declared.Examined.{Examined}
 use Rattle.examine.specs.declared.Examined.the-variants.{Accepted, Refused}
@@ -40,23 +39,13 @@ use Rattle.flow_blocks.proofs.Bounds.{small-start, small-flag, small-co
 
 -- record after record: the blocks, then zeros
 module _ (m : Mem) (f : ℕ → Block) (blocks : ℕ) (is : (c : ℕ) → c < blocks → blockIn m c ≡ f c) where
-  -- a block's record
-  block-listed : (c : ℕ) → c < blocks → listedBlock m blocks c ≡ f c
-  unfolding listedBlock
-  block-listed c lt = rw (lt-ltb c blocks lt) (is c lt)
-
-  -- behind the last
-  none-listed : (c : ℕ) → blocks ≤ c → listedBlock m blocks c ≡ zeroBlock
-  unfolding listedBlock
-  none-listed c ge = rw (le-ltb c blocks ge) refl
-
   pub blocks-then-zeros : (n : ℕ) → blocks ≤ n → tabulate 0 n (listedBlock m blocks) ≡ tabulate 0 blocks f ++ replicate (n - blocks) zeroBlock
   blocks-then-zeros n le =
       let e : n ≡ blocks + (n - blocks) = omega arith in
       ap (λ (i : ℕ). tabulate 0 i (listedBlock m blocks)) e
       ∙ tabulate-append 0 blocks (n - blocks) (listedBlock m blocks)
-      ∙ ap₂ (λ (l r : List Block). l ++ r) (tabulate-among 0 blocks (listedBlock m blocks) f (λ c lo hi. block-listed c (omega arith)))
-      (tabulate-among (0 + blocks) (n - blocks) (listedBlock m blocks) (λ c. zeroBlock) (λ c lo hi. none-listed c (omega arith))
+      ∙ ap₂ (λ (l r : List Block). l ++ r) (tabulate-among 0 blocks (listedBlock m blocks) f (λ c lo hi. sym (listed-in m c blocks (omega arith) (sym (is c (omega arith))))))
+      (tabulate-among (0 + blocks) (n - blocks) (listedBlock m blocks) (λ c. zeroBlock) (λ c lo hi. sym (listed-behind m c blocks (omega arith)))
       ∙ tabulate-same (0 + blocks) (n - blocks) zeroBlock)
 
 -- ---- the numbers of a record, cut to 32 bits

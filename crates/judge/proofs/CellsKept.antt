@@ -1,7 +1,7 @@
 -- A block's words stay where the graph's cells stay, and hold the charge of each instruction. Assumes nothing.
 use mathlib.Core.Path.{_≡_, refl, sym, subst}
 use mathlib.Core.Bool.{Bool}
-use mathlib.Core.List.{List, [], _∷_, _++_, List·Memᴰ, List·Memᴰ·head, List·Memᴰ·tail}
+use mathlib.Core.List.{List, List·Memᴰ, List·Memᴰ·head, Memᴰ·append-right}
 use Prim.Native.Nat.{ℕ, suc, _≤_, _<_}
 use native.Mathlib.Omega.{arith}
 use lib.ListN.{length, getD}
@@ -30,11 +30,6 @@ block-still h c lt =
 
 -- ---- the charge of each instruction
 
--- what stands between two lists is in them together
-mem-between : (u v : List ℕ) (i : ℕ) → List·Memᴰ i (u ++ (i ∷ v))
-mem-between [] v i = List·Memᴰ·head refl
-mem-between (x ∷ u) v i = List·Memᴰ·tail (mem-between u v i)
-
 -- each instruction lies between the start and the end of a block
 pub among-block : (code : List Instruction) (i : ℕ) → i < length code
     → (b : ℕ) × (b < blockCount code) × (getD (leaders code) b (length code) ≤ i) × (i < getD (leaders code) (suc b) (length code))
@@ -42,7 +37,7 @@ among-block code i lt =
     let p = block-place code i lt in
     let q = block-range code (p .0) (p .3) in
     let r = range-bounds (getD (leaders code) (p .0) (length code)) (length (body code (p .0))) i
-    (subst (λ (l : List ℕ). List·Memᴰ i l) (q .0) (subst (λ (l : List ℕ). List·Memᴰ i l) (sym (p .4)) (mem-between (p .1) (p .2) i))) in
+    (subst (λ (l : List ℕ). List·Memᴰ i l) (q .0) (subst (λ (l : List ℕ). List·Memᴰ i l) (sym (p .4)) (Memᴰ·append-right (p .1) (List·Memᴰ·head refl)))) in
     (p .0, p .3, r .0, omega (arith, r .1, q .1))
 
 -- the words of all blocks hold the charge of each

@@ -7,14 +7,12 @@ use native.Mathlib.Omega.{arith}
 use borrow.Author.Tests.{ltb-false}
 use lib.Dec.{ltb}
 use lib.ListN.{length, replicate, length-replicate, List·getD-eq-default}
-use Rattle.bitset.specs.Sets.{member}
 use Rattle.format.specs.Types.{absent}
 use Rattle.memory.specs.Cells.{Mem, cell, storeCell}
 use Rattle.memory.specs.Names.{hostsRow}
 use Rattle.memory.specs.declared.layout.Layout.{Layout}
 use Rattle.memory.specs.Scratch.{scratch, Row}
-use Rattle.memory.proofs.CellLaws.{cell-store-same, cell-store-other}
-use Rattle.memory.proofs.ScratchLaws.{scratch-length}
+use Rattle.memory.proofs.CellLaws.{cell-store-other}
 use Rattle.sheet.specs.declared.script.Script.{Script}
 use Rattle.sheet.specs.Decode.{Parts, partsOf}
 use Rattle.instructions.specs.Slots.{isHost}
@@ -24,6 +22,7 @@ use Rattle.instructions.proofs.SetSteps.{length-hosts}
 use Rattle.instructions.proofs.SetMembers.{hosts-in-row, records-count}
 use Rattle.script.specs.Script.{hostIn}
 use Rattle.answer.specs.Words.{Means}
+use Rattle.check_points.proofs.SolvedLaws.{stored-means}
 use Rattle.judge.specs.Judge.{Hosted}
 
 -- ---- where it lies
@@ -73,9 +72,6 @@ module _ (s : List ℕ) (x : Script) (sound : Sound s x) where
   pub hosted-row : (y : Layout) (w : List ℕ) (m′ : Mem) → x .slots ≤ 64 * y .words
       → m′ ≡ storeCell (scratch y w) (hostsRow (y .blocks)) (hostRow (partsOf s) (y .words)) → Hosted s x y (scratch y w) m′
   hosted-row y w m′ wide e = record {
-    row = λ h i lt. ap (λ (v : Mem). member (cell v (hostsRow (y .blocks))) i) e
-        ∙ ap (λ (ws : List ℕ). member ws i)
-        (cell-store-same (scratch y w) (hostsRow (y .blocks)) (hostRow (partsOf s) (y .words)) (omega (arith, scratch-length y w)))
-        ∙ hosts-mean (y .words) wide i lt;
+    row = λ h. stored-means y w (y .words) (hostsRow (y .blocks)) _ _ (omega arith) e (hosts-mean (y .words) wide);
     others = λ k ne. ap (λ (v : Mem). cell v k) e ∙ cell-store-other (scratch y w) (hostsRow (y .blocks)) (hostRow (partsOf s) (y .words)) k ne;
   }

@@ -7,10 +7,10 @@ use lib.ListN.{length, getD, set, drop, length-drop}
 use lib.Seq.{getD-set-same, getD-set-other, getD-drop}
 use Rattle.dataflow.specs.Search.{Frame}
 use Rattle.memory.specs.Cells.{Mem, cell, word}
-use Rattle.memory.specs.Names.{stackBlockCell, stackEdgeCell}
+use Rattle.memory.specs.Names.{stackBlockCell, stackEdgeCell, successorCell, successorCountCell}
 use Rattle.memory.specs.declared.layout.Layout.{Layout}
 use Rattle.edges.specs.Edges.{Holds, Held}
-use Rattle.edges.proofs.EdgeLaws as graph
+use Rattle.edges.proofs.EdgeLaws as edges
 use Rattle.order.specs.Turns.{framesOf, stackOf, Kept, Facing}
 
 -- what the word at i of the stack's cells says
@@ -68,8 +68,9 @@ frames-next next bs es i e g =
 -- ---- the graph
 module _ (m m′ : Mem) (k : Kept m m′) where
   pub holds-kept : {next : ℕ → List ℕ} {y : Layout} → Holds next y m → Holds next y m′
-  holds-kept h = graph.holds-kept (k 7 (λ q. omega arith) (λ q. omega arith) (λ q. omega arith) (λ q. omega arith))
-      (k 16 (λ q. omega arith) (λ q. omega arith) (λ q. omega arith) (λ q. omega arith)) h
+  holds-kept h =
+      edges.holds-kept (k successorCountCell (λ q. omega arith) (λ q. omega arith) (λ q. omega arith) (λ q. omega arith))
+      (k successorCell (λ q. omega arith) (λ q. omega arith) (λ q. omega arith) (λ q. omega arith)) h
 
   pub held-kept : (y : Layout) → Held y m → Held y m′
   held-kept y h = (h .0, holds-kept (h .1))

@@ -14,14 +14,13 @@ use Rattle.memory.proofs.CellLaws.{Sized}
 use Rattle.memory.proofs.ScratchLaws.{sized-blocks}
 use Rattle.budget.specs.declared.FlowBudget.{FlowBudget}
 use Rattle.budget.specs.declared.Limits.{Limits}
-use Rattle.budget.specs.declared.Charged.{Charged}
 use Rattle.budget.specs.declared.Charged.the-variants as charging
-use Rattle.budget.specs.Budget.{charged, andCharged}
-use Rattle.budget.proofs.BudgetLaws.{charged-none, charged-cons}
+use Rattle.budget.specs.Budget.{charged}
+use Rattle.budget.proofs.BudgetLaws.{charged-none, met-then, over-then}
 use Rattle.edges.specs.Edges.{marked, Holds}
 use Rattle.order.specs.declared.Ordered.{Ordered}
 use Rattle.order.specs.declared.Ordered.the-variants.{Ok, Over}
-use Rattle.order.specs.Postorder.{searchedFrom, chargedIn, Searched}
+use Rattle.order.specs.Postorder.{searchedFrom, searchCharges, chargedIn, Searched}
 use Rattle.order.specs.Turns.{stackOf, searchOf, turned, Good, Kept, Begun, Turned, Resumed}
 use Rattle.order.proofs.SearchEnd.{search-step, search-stop, turns-step, turns-stop, turn-left, few-turns}
 use Rattle.order.proofs.FrameLaws.{frameAt, frames-none, stack-top, holds-kept, kept-trans, rest-below}
@@ -62,24 +61,22 @@ module _ (next : ℕ → List ℕ) (y : Layout) (l : Limits) (b : FlowBudget) wh
       one = turn-left next d f fs e below
 
       spent : charged l b (turnCharges next (y .blocks))
-          ≡ andCharged (charged l left (1 ∷ [])) (λ c. charged l c (replicate (turns next after (turned next d)) 1))
+          ≡ charged l left (1 ∷ replicate (turns next after (turned next d)) 1)
       spent =
           w .charges
           ∙ ap (λ (n : ℕ). charged l left (replicate n 1)) (ap (λ (n : ℕ). turns next n d) one ∙ turns-step next d f fs e after)
-          ∙ charged-cons l left 1 (replicate (turns next after (turned next d)) 1)
 
       pub way-more : (left′ : FlowBudget) → charged l left (1 ∷ []) ≡ charging.Ok left′ → (d′ : Search) → d′ ≡ turned next d
           → Way d′ left′ (turn + 1)
       way-more left′ q d′ t = subst (λ (x : Search). Way x left′ (turn + 1)) (sym t) (record {
         fuel = omega (arith, w .fuel, one);
         whole = sym (search-step next d f fs e after) ∙ ap (λ (n : ℕ). search next n d) (sym one) ∙ w .whole;
-        charges = spent ∙ ap (λ (c : Charged). andCharged c (λ x. charged l x (replicate (turns next after (turned next d)) 1))) q;
+        charges = spent ∙ met-then l left (1 ∷ []) (replicate (turns next after (turned next d)) 1) q;
       })
 
       pub way-over : (left′ : FlowBudget) → charged l left (1 ∷ []) ≡ charging.Over left′
           → charged l b (turnCharges next (y .blocks)) ≡ charging.Over left′
-      way-over left′ q =
-          spent ∙ ap (λ (c : Charged). andCharged c (λ x. charged l x (replicate (turns next after (turned next d)) 1))) q
+      way-over left′ q = spent ∙ over-then l left (1 ∷ []) (replicate (turns next after (turned next d)) 1) q
 
     -- with an empty stack
     module _ (e : d .stack ≡ []) where
@@ -91,6 +88,17 @@ module _ (next : ℕ → List ℕ) (y : Layout) (l : Limits) (b : FlowBudget) wh
           w .charges ∙ ap (λ (n : ℕ). charged l left (replicate n 1)) (turns-stop next d e (turnsLeft next d)) ∙ charged-none l left
 
 -- ---- the words, for whatever graph they hold
+
+-- a charge of the search crossed the limit
+searched-crossed : (y : Layout) (l : Limits) (b : FlowBudget) (m m′ : Mem) (left : FlowBudget) (r : Ordered) → r ≡ Over left → Kept m m′
+    → ((next : ℕ → List ℕ) → Holds next y m → charged l b (searchCharges next (y .blocks)) ≡ charging.Over left) → Searched y l b m m′ r
+searched-crossed y l b m m′ left r o kept crossed = record {
+  charges = λ next holds. ap chargedIn o ∙ sym (crossed next holds);
+  order = λ next holds n c e. let a : _≡_ {A = ℕ} 0 1 = cc in absurd (omega arith);
+  len = λ next holds n c e. let a : _≡_ {A = ℕ} 0 1 = cc in absurd (omega arith);
+  others = kept;
+}
+
 module _ (y : Layout) (l : Limits) (b : FlowBudget) (m₀ : Mem) where
   pub record Going (m : Mem) (left : FlowBudget) (top len turn : ℕ) : Type 0 where
     pub good : Good y m top len
@@ -103,13 +111,6 @@ module _ (y : Layout) (l : Limits) (b : FlowBudget) (m₀ : Mem) where
     others = λ k a b c d. refl;
     way = λ next holds. way-start next y l b h (searchOf next m₀ 1 0) (s .begins next);
   }
-
-  -- charges that were met, then those of the turns
-  resumed : (next : ℕ → List ℕ) (b₀ : FlowBudget) → charged l b₀ ((3 * y .blocks) ∷ []) ≡ charging.Ok b
-      → charged l b₀ ((3 * y .blocks) ∷ turnCharges next (y .blocks)) ≡ charged l b (turnCharges next (y .blocks))
-  resumed next b₀ q =
-      charged-cons l b₀ (3 * y .blocks) (turnCharges next (y .blocks))
-      ∙ ap (λ (c : Charged). andCharged c (λ x. charged l x (turnCharges next (y .blocks)))) q
 
   module _ (m : Mem) (z : Sized (scratchWidths y) m) (left : FlowBudget) (top len turn : ℕ) (g : Going m left top len turn) where
     flags : (next : ℕ → List ℕ) → length (searchOf next m top len .visited) ≡ y .blocks
@@ -134,20 +135,17 @@ module _ (y : Layout) (l : Limits) (b : FlowBudget) (m₀ : Mem) where
 
       pub going-over : (left′ : FlowBudget) → charged l left (1 ∷ []) ≡ charging.Over left′ → (r : Ordered) → r ≡ Over left′
           → Resumed y l b m₀ m r
-      going-over left′ q r o b₀ e = record {
-        charges = λ next holds.
-            ap chargedIn o ∙ sym (resumed next b₀ e
-            ∙ way-over next y l b (searchOf next m top len) left turn (g .way next holds) (frameAt next m (top - 1)) (stackOf next m (top - 1))
-            (stack-top next m top h) (below next holds) left′ q);
-        order = λ next holds n c q. let a : _≡_ {A = ℕ} 0 1 = cc in absurd (omega arith);
-        len = λ next holds n c q. let a : _≡_ {A = ℕ} 0 1 = cc in absurd (omega arith);
-        others = g .others;
-      }
+      going-over left′ q r o b₀ e =
+          searched-crossed y l b₀ m₀ m left′ r o (g .others) (λ next holds.
+          met-then l b₀ ((3 * y .blocks) ∷ []) (turnCharges next (y .blocks)) e
+          ∙ way-over next y l b (searchOf next m top len) left turn (g .way next holds) (frameAt next m (top - 1)) (stackOf next m (top - 1))
+          (stack-top next m top h) (below next holds) left′ q)
 
     going-end : ((next : ℕ → List ℕ) → Holds next y m₀ → searchOf next m top len .stack ≡ []) → Resumed y l b m₀ m (Ok len left)
     going-end stop b₀ e = record {
       charges = λ next holds.
-          sym (resumed next b₀ e ∙ way-met next y l b (searchOf next m top len) left turn (g .way next holds) (stop next holds));
+          sym (met-then l b₀ ((3 * y .blocks) ∷ []) (turnCharges next (y .blocks)) e
+          ∙ way-met next y l b (searchOf next m top len) left turn (g .way next holds) (stop next holds));
       order = λ next holds n c q.
           let same : len ≡ n = cc in
           rw (← same) (sym (reverse-reverse (take len (cell m 10))) ∙ ap (λ (d : Search). reverse (d .finished)) (end next holds));
@@ -177,14 +175,9 @@ module _ (y : Layout) (l : Limits) (b : FlowBudget) (m₀ : Mem) where
 -- ---- the whole: the first charge crosses the limit, or the search goes on from words that hold the same graph
 pub searched-over : (y : Layout) (l : Limits) (b : FlowBudget) (m : Mem) (left : FlowBudget)
     → charged l b ((3 * y .blocks) ∷ []) ≡ charging.Over left → (r : Ordered) → r ≡ Over left → Searched y l b m m r
-searched-over y l b m left q r o = record {
-  charges = λ next holds.
-      ap chargedIn o ∙ sym (charged-cons l b (3 * y .blocks) (turnCharges next (y .blocks))
-      ∙ ap (λ (c : Charged). andCharged c (λ x. charged l x (turnCharges next (y .blocks)))) q);
-  order = λ next holds n c e. let a : _≡_ {A = ℕ} 0 1 = cc in absurd (omega arith);
-  len = λ next holds n c e. let a : _≡_ {A = ℕ} 0 1 = cc in absurd (omega arith);
-  others = λ k a b c d. refl;
-}
+searched-over y l b m left q r o =
+    searched-crossed y l b m m left r o (λ k a b c d. refl)
+    (λ next holds. over-then l b ((3 * y .blocks) ∷ []) (turnCharges next (y .blocks)) q)
 
 pub searched-kept : (y : Layout) (l : Limits) (b : FlowBudget) (m₀ m m′ : Mem) (r : Ordered) → Kept m₀ m → Searched y l b m m′ r
     → Searched y l b m₀ m′ r

@@ -149,7 +149,7 @@ module _ {d : Direction} {y : Layout} {m₀ m : Mem} (f : Fixed d y m₀ m) wher
             (sym (rows-at d y t p lt ∙ ap (λ (e : Direction). cell t (keptRow e p)) q))
         go Liveness q = ap (join x) (sym (rows-at d y t p lt ∙ ap (λ (e : Direction). cell t (keptRow e p)) q))
 
-    gather-all : (ps : List ℕ) (x : List ℕ) → AllBelow (y .blocks) ps → gatherAll d m t ps x ≡ gatherRows d m₀ (rowsOf d y t) ps x
+    pub gather-all : (ps : List ℕ) (x : List ℕ) → AllBelow (y .blocks) ps → gatherAll d m t ps x ≡ gatherRows d m₀ (rowsOf d y t) ps x
     unfolding gatherAll gatherRows
     gather-all [] x h = refl
     gather-all (p ∷ ps) x h =

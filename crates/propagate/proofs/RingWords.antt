@@ -1,6 +1,6 @@
 -- The ring's words as a queue, the marks as truth values, and lists of blocks. Assumes nothing.
 use mathlib.Core.Path.{_≡_, refl, sym, ap, _∙_}
-use mathlib.Core.Bool.{Bool, true, false, true≢false}
+use mathlib.Core.Bool.{Bool, true, false}
 use mathlib.Core.List.{List, [], _∷_, _++_, map, reverseAux}
 use Prim.Native.Nat.{ℕ, zero, suc, _+_, _-_, _≤_, _<_}
 use native.Mathlib.Omega.{arith}
@@ -8,6 +8,7 @@ use native.Mathlib.Decide.{decLt}
 use lib.ListN.{length, getD, set, take, drop, replicate, List·getD-map}
 use lib.Seq.{getD-set-same, getD-set-other, drop-cons, take-at}
 use Rattle.dataflow.specs.Lists.{sum}
+use Rattle.dataflow.specs.Search.{unvisited}
 use Rattle.memory.specs.declared.layout.Layout.{Layout}
 use Rattle.edges.specs.Edges.{marked}
 use Rattle.bitset.specs.Below.{AllBelow}
@@ -83,36 +84,16 @@ module _ (y : Layout) where
 pub marks-at : (q : List ℕ) (d : ℕ) → getD (map marked q) d false ≡ marked (getD q d 0)
 marks-at q d = List·getD-map marked q d 0
 
--- how many marks there are
-abbrev pub trues : List Bool → ℕ
-trues [] = 0
-trues (true ∷ l) = suc (trues l)
-trues (false ∷ l) = trues l
+-- a mark gone is at most one more that is missing
+pub unvisited-clear : (l : List Bool) (i : ℕ) → unvisited (set l i false) ≤ suc (unvisited l)
+unvisited-clear [] i = omega arith
+unvisited-clear (true ∷ l) zero = omega arith
+unvisited-clear (false ∷ l) zero = omega arith
+unvisited-clear (true ∷ l) (suc i) = omega (arith, unvisited-clear l i)
+unvisited-clear (false ∷ l) (suc i) = omega (arith, unvisited-clear l i)
 
--- no more than there are words
-pub trues-few : (l : List Bool) → trues l ≤ length l
-trues-few [] = omega arith
-trues-few (true ∷ l) = omega (arith, trues-few l)
-trues-few (false ∷ l) = omega (arith, trues-few l)
-
--- a mark where there was none is one more
-pub trues-more : (l : List Bool) (i : ℕ) → i < length l → getD l i false ≡ false → trues (set l i true) ≡ suc (trues l)
-trues-more [] i lt e = absurd (omega arith)
-trues-more (true ∷ l) zero lt e = absurd (true≢false e)
-trues-more (false ∷ l) zero lt e = refl
-trues-more (true ∷ l) (suc i) lt e = ap suc (trues-more l i (omega arith) e)
-trues-more (false ∷ l) (suc i) lt e = trues-more l i (omega arith) e
-
--- a mark gone is at most one less
-pub trues-less : (l : List Bool) (i : ℕ) → trues l ≤ suc (trues (set l i false))
-trues-less [] i = omega arith
-trues-less (true ∷ l) zero = omega arith
-trues-less (false ∷ l) zero = omega arith
-trues-less (true ∷ l) (suc i) = omega (arith, trues-less l i)
-trues-less (false ∷ l) (suc i) = omega (arith, trues-less l i)
-
--- words that are 0 or 1 sum to no more than their marks
-pub sum-marks : (l : List ℕ) → ((i : ℕ) → getD l i 0 ≤ 1) → sum l ≤ trues (map marked l)
+-- of words that are 0 or 1 the sum and the marks that are missing are no more than the words
+pub sum-marks : (l : List ℕ) → ((i : ℕ) → getD l i 0 ≤ 1) → sum l + unvisited (map marked l) ≤ length l
 sum-marks [] h = omega arith
 sum-marks (zero ∷ l) h = omega (arith, sum-marks l (λ i. h (suc i)))
 sum-marks (suc x ∷ l) h = omega (arith, h 0, sum-marks l (λ i. h (suc i)))

@@ -6,14 +6,13 @@ use Prim.Native.Nat.{ℕ, suc, _+_, _*_, _-_, _≤_}
 use native.Mathlib.Omega.{arith}
 use lib.ListN.{length, take, drop, replicate, length-set, length-map, length-append, length-drop, length-replicate}
 use Rattle.dataflow.specs.Worklist as worklist
-use Rattle.dataflow.specs.Charges.{traceCharges}
 use Rattle.dataflow.proofs.Worklist.{run-more}
 use Rattle.budget.specs.declared.FlowBudget.{FlowBudget}
 use Rattle.budget.specs.declared.Limits.{Limits}
 use Rattle.budget.specs.declared.Charged.{Charged}
 use Rattle.budget.specs.declared.Charged.the-variants.{Ok, Over}
-use Rattle.budget.specs.Budget.{charged, andCharged}
-use Rattle.budget.proofs.BudgetLaws.{charged-cons, charged-append, over-not-ok, met-one}
+use Rattle.budget.specs.Budget.{charged}
+use Rattle.budget.proofs.BudgetLaws.{met-then, over-then, over-not-ok, met-one}
 use Rattle.memory.specs.Cells.{Mem, cell, storeCell}
 use Rattle.memory.specs.Names.{orderCell, queuedCell, reachableCell, ringCell}
 use Rattle.memory.specs.Scratch.{scratchWidths}
@@ -29,7 +28,6 @@ use Rattle.solver.specs.declared.direction.Direction.the-variants.{Initializati
 use Rattle.solver.specs.declared.ring.Ring.{Ring}
 use Rattle.solver.specs.declared.ring.Turn.{Turn}
 use Rattle.solver.specs.declared.ring.Turn.the-variants.{Stop, Done}
-use Rattle.solver.specs.Neighbors.{readsOf, dependentsOf, neighbors}
 use Rattle.solver.specs.Run.{At, Out, stop, on, atOf, outOf, paid, run, Good, Idle, queueOf, inRing, cleared, seeded, full}
 use Rattle.solver.proofs.NeighborLaws.{connected-kept}
 use Rattle.solver.proofs.SeedLaws.{queue-length}
@@ -39,7 +37,7 @@ use Rattle.propagate.proofs.RingWords.{ringWords, ring-none, ring-full,
 use Rattle.propagate.proofs.RingWords.{below-zeros, below-take}
 use Rattle.propagate.proofs.Fixed.{Fixed, fixed-none, fixed-ring, fixed-queued, fixed-edges}
 use Rattle.propagate.proofs.Simulation.{Simulates}
-use Rattle.propagate.proofs.Visits.{chargesOf, Follows, follows-run, run-charges, run-parts}
+use Rattle.propagate.proofs.Visits.{chargesOf, Follows, follows-run, longer-charges}
 
 -- ---- the seeding
 
@@ -141,27 +139,29 @@ module _ (d : Direction) {y : Layout} {n : ℕ} {m : Mem} (z : Sized (scratchWid
         ∙ ring-full y waiting (drop n (replicate (y .blocks) 0)) n waiting-long (h .count) (omega (arith, ring-long, h .count)));
     marks = ap (map marked) (sym queued-seeded);
     head = h .some;
-    room = omega (arith, h .reached, sum-marks (cell m reachableCell) (h .flags));
+    room = omega (arith, h .reached, sum-marks (cell m reachableCell) (h .flags), sized-blocks y z reachableCell (omega arith) (omega arith));
     marks-long = length-map (cell m reachableCell) marked ∙ sized-blocks y z reachableCell (omega arith) (omega arith);
     below = waiting-below;
   }
 
 -- ---- the answers
 
--- the charge of the seeding crossed the limit
-pub propagated-over : {d : Direction} {y : Layout} {l : Limits} {b : FlowBudget} {n : ℕ} {m m′ t t′ : Mem} {x : FlowBudget}
-    → charged l b ((y .blocks + n) ∷ []) ≡ Over x → Propagated d y l b n m m′ t t′ (Over x)
-unfolding roundCharges
-propagated-over {d} {y} {l} {b} {n} {m} {m′} {t} {t′} {x} e = record {
-  charges = sym (charged-cons l b (y .blocks + n) cs ∙ ap (λ (c : Charged). andCharged c (λ b′. charged l b′ cs)) e);
+-- the charges of the round crossed the limit
+propagated-crossed : {d : Direction} {y : Layout} {l : Limits} {b : FlowBudget} {n : ℕ} {m m′ t t′ : Mem} {x : FlowBudget}
+    → charged l b (roundCharges d y (suc (l .work)) n m t) ≡ Over x → Propagated d y l b n m m′ t t′ (Over x)
+propagated-crossed e = record {
+  charges = sym e;
   ended = λ left q. absurd (over-not-ok q);
   rows = λ left q. absurd (over-not-ok q);
   others = λ left q. absurd (over-not-ok q);
   other-sets = λ left q. absurd (over-not-ok q);
 }
-  where
-    cs : List ℕ
-    cs = traceCharges (y .words) (neighbors (readsOf d) m) (neighbors (dependentsOf d) m) (roundRun d y (suc (l .work)) n m t .trace)
+
+-- so they did where the charge of the seeding did
+pub propagated-over : {d : Direction} {y : Layout} {l : Limits} {b : FlowBudget} {n : ℕ} {m m′ t t′ : Mem} {x : FlowBudget}
+    → charged l b ((y .blocks + n) ∷ []) ≡ Over x → Propagated d y l b n m m′ t t′ (Over x)
+unfolding roundCharges
+propagated-over {y = y} {l = l} {b = b} {n = n} e = propagated-crossed (over-then l b ((y .blocks + n) ∷ []) _ e)
 
 module _ (d : Direction) (y : Layout) (l : Limits) (b left : FlowBudget) (n : ℕ) (m t : Mem) (z : Sized (scratchWidths y) m)
     (zt : Sized (setsWidths y) t) (h : Seedable y m n) (met : charged l b ((y .blocks + n) ∷ []) ≡ Ok left) (low : left .work ≤ l .work) where
@@ -189,25 +189,20 @@ module _ (d : Direction) (y : Layout) (l : Limits) (b left : FlowBudget) (n : �
   -- the charges of the round are those of the seeding, those of the words' run, and further ones
   further : (cs : List ℕ) × (chargesOf d y l m t long ≡ follows .charges ++ cs)
   further =
-      let a = run-charges d y l m t (left .work) short in (
+      let a = longer-charges d y l m t fuel (left .work) begun in (
         a .0,
-        ap (λ (k : ℕ). chargesOf d y l m t (worklist.run (rowSolver d y m) k begun)) all-fuel
-            ∙ ap (chargesOf d y l m t) (run-parts (rowSolver d y m) fuel (left .work) begun) ∙ a .1
+        ap (λ (k : ℕ). chargesOf d y l m t (worklist.run (rowSolver d y m) k begun)) all-fuel ∙ a .1
             ∙ ap (λ (cs : List ℕ). cs ++ a .0) (follows .more),
       )
 
   -- the charge of the seeding was met, so the visits' are made to what it left
   all-charges : charged l b (roundCharges d y (suc (l .work)) n m t) ≡ charged l left (chargesOf d y l m t long)
   unfolding roundCharges roundRun
-  all-charges =
-      charged-cons l b (y .blocks + n) (chargesOf d y l m t long)
-      ∙ ap (λ (c : Charged). andCharged c (λ b′. charged l b′ (chargesOf d y l m t long))) met
+  all-charges = met-then l b ((y .blocks + n) ∷ []) (chargesOf d y l m t long) met
 
   -- a charge of the visits crossed the limit
-  crossed-there : {x : FlowBudget} → charged l left (follows .charges) ≡ Over x → Over x ≡ charged l b (roundCharges d y (suc (l .work)) n m t)
-  crossed-there {x} e =
-      sym (all-charges ∙ ap (charged l left) (further .1) ∙ charged-append l left (follows .charges) (further .0)
-      ∙ ap (λ (c : Charged). andCharged c (λ b′. charged l b′ (further .0))) e)
+  crossed-there : {x : FlowBudget} → charged l left (follows .charges) ≡ Over x → charged l b (roundCharges d y (suc (l .work)) n m t) ≡ Over x
+  crossed-there e = all-charges ∙ ap (charged l left) (further .1) ∙ over-then l left (follows .charges) (further .0) e
 
   -- ---- the run went to its end
   module _ {m′ t′ : Mem} {g : Ring} {x : FlowBudget} (e : charged l left (follows .charges) ≡ Ok x) (at : atOf m′ t′ g ≡ follows .at)
@@ -256,13 +251,7 @@ module _ (d : Direction) (y : Layout) (l : Limits) (b left : FlowBudget) (n : �
       go : (r : Turn) (c : Charged) → charged l left (follows .charges) ≡ c → outOf m′ t′ r ≡ paid c (λ b′. on (follows .at) b′)
           → Idle (outOf m′ t′ r) → Propagated d y l b n m m′ t t′ (chargedOf r)
       go (Stop x) (Ok x′) q e i = absurd (true≢false (ap stopped e))
-      go (Stop x) (Over x′) q e i = record {
-        charges = crossed-there (q ∙ ap Over (sym (ap leftOf e)));
-        ended = λ left q. absurd (over-not-ok q);
-        rows = λ left q. absurd (over-not-ok q);
-        others = λ left q. absurd (over-not-ok q);
-        other-sets = λ left q. absurd (over-not-ok q);
-      }
+      go (Stop x) (Over x′) q e i = propagated-crossed (crossed-there (q ∙ ap Over (sym (ap leftOf e))))
       go (Done g x) (Ok x′) q e i = met-all (q ∙ ap Ok (sym (ap leftOf e))) (ap (atIn (atOf m′ t′ g)) e) i
       go (Done g x) (Over x′) q e i = absurd (false≢true (ap stopped e))
 

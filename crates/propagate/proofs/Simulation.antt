@@ -10,7 +10,9 @@ use lib.Dec.{eqb}
 use lib.ListN.{length, getD, set, length-set}
 use Rattle.dataflow.specs.Lists.{pick}
 use Rattle.dataflow.specs.Worklist as worklist
+use Rattle.dataflow.specs.Search.{unvisited}
 use Rattle.dataflow.proofs.Lists.{map-set}
+use Rattle.dataflow.proofs.Reachability.{unvisited-set}
 use Rattle.memory.specs.Cells.{Mem, cell, word, store, storeCell}
 use Rattle.memory.specs.Names.{queuedCell, reachableCell, ringCell}
 use Rattle.memory.specs.declared.layout.Layout.{Layout}
@@ -26,8 +28,7 @@ use Rattle.solver.proofs.TransferLaws.{row-other}
 use Rattle.solver.proofs.RingLaws.{wrap-lt, pushed-marks, pushed-ring}
 use Rattle.propagate.specs.Rounds.{rowsOf, rowSolver}
 use Rattle.bitset.proofs.Below.{below-append}
-use Rattle.propagate.proofs.RingWords.{ringWords, ring-push, ring-pop, marks-at}
-use Rattle.propagate.proofs.RingWords.{trues, trues-few, trues-more, trues-less}
+use Rattle.propagate.proofs.RingWords.{ringWords, ring-push, ring-pop, marks-at, unvisited-clear}
 use Rattle.propagate.proofs.Fixed.{Fixed, fixed-ring, fixed-queued, fixed-running, fixed-reachable, rows-set}
 
 -- The words of s, which were m₀ and t₀ at the beginning, hold the rows and the ring of a worklist state.
@@ -42,9 +43,9 @@ pub record Simulates (d : Direction) (y : Layout) (m₀ t₀ : Mem) (s : At) (ro
   pub table : rows ≡ rowsOf d y (s .sets)
   pub queue : r .queue ≡ ringWords y (cell (s .mem) ringCell) (s .ring .head) (s .ring .count)
   pub marks : r .marks ≡ map marked (cell (s .mem) queuedCell)
-  -- the ring has room: no more blocks wait than have marks, and each is a block
+  -- the ring has room for each block that has no mark, and each that waits is a block
   pub head : s .ring .head < y .blocks
-  pub room : s .ring .count ≤ trues (r .marks)
+  pub room : s .ring .count + unvisited (r .marks) ≤ y .blocks
   pub marks-long : length (r .marks) ≡ y .blocks
   pub below : AllBelow (y .blocks) (r .queue)
 
@@ -111,11 +112,11 @@ module _ {d : Direction} {y : Layout} {m₀ t₀ : Mem} where
       below = below-append (y .blocks) (r .queue) (c ∷ []) (h .below) (lt, tt);
     }
       where
-        more : trues (set (r .marks) c true) ≡ suc (trues (r .marks))
-        more = trues-more (r .marks) c (omega (arith, h .marks-long)) (mark-is ∙ marked-no (word (s .mem) queuedCell c) e)
+        more : suc (unvisited (set (r .marks) c true)) ≡ unvisited (r .marks)
+        more = unvisited-set (r .marks) c (omega (arith, h .marks-long)) (mark-is ∙ marked-no (word (s .mem) queuedCell c) e)
 
         less : s .ring .count < y .blocks
-        less = omega (arith, more, h .room, trues-few (set (r .marks) c true), length-set (r .marks) c true, h .marks-long)
+        less = omega (arith, more, h .room)
 
     -- an offer over the words is an offer to the ring
     pub simulates-offered : Simulates d y m₀ t₀ (offered y c s) rows (offerTo m₀ c r)
@@ -179,7 +180,7 @@ module _ {d : Direction} {y : Layout} {m₀ t₀ : Mem} where
           ∙ sym (ap (map marked) (cell-store-same (s .mem) queuedCell (set (cell (s .mem) queuedCell) (firstIn s) 0) (omega (arith, h .cells)))
           ∙ map-set marked (cell (s .mem) queuedCell) (firstIn s) 0);
       head = wrap-lt y (s .ring .head + 1) (omega (arith, h .head));
-      room = omega (arith, h .room, trues-less (r .marks) (firstIn s));
+      room = omega (arith, h .room, unvisited-clear (r .marks) (firstIn s));
       marks-long = length-set (r .marks) (firstIn s) false ∙ h .marks-long;
       below = all-below .1;
     }

@@ -37,6 +37,20 @@ use Rattle.propagate.proofs.Fixed.{fixed-edges, fixed-computed, neighbo
 use Rattle.propagate.proofs.Simulation.{Simulates, offeredAll, behind, simulates-told, simulates-first, first-below, simulates-popped}
 use Rattle.propagate.proofs.Simulation.{simulates-computed, simulates-stored}
 
+-- a run in two parts
+run-parts : {W : Type 0} (a : worklist.Solver W) (k j : ℕ) (q : worklist.State W)
+    → worklist.run a (k + j) q ≡ worklist.run a j (worklist.run a k q)
+unfolding worklist.run
+run-parts a zero j q = rw (zero-add j) refl
+run-parts {W = W} a (suc k) j q = rw (suc-add k j) (go (q .ring .queue) refl (λ q′. run-parts a k j q′))
+  where
+    go : (z : List ℕ) → q .ring .queue ≡ z
+        → ((q′ : worklist.State W) → worklist.run a (k + j) q′ ≡ worklist.run a j (worklist.run a k q′))
+        → worklist.onFirst a (λ b r. worklist.run a (k + j) (worklist.visit a b r q)) z q
+        ≡ worklist.run a j (worklist.onFirst a (λ b r. worklist.run a k (worklist.visit a b r q)) z q)
+    go [] e rest = sym (run-stop a j q e)
+    go (b ∷ r) e rest = rest (worklist.visit a b r q)
+
 -- ---- charges in parts
 
 -- charges, then further charges
@@ -244,7 +258,7 @@ module _ (d : Direction) (y : Layout) (l : Limits) (m₀ t₀ : Mem) where
   settle-charges false c v w q = (visitCharges (y .words) (neighbors (readsOf d) m₀) (neighbors (dependentsOf d) m₀) (worklist.changed c), refl)
 
   -- and of n more
-  pub run-charges : (n : ℕ) (q : worklist.State (List ℕ)) → (cs : List ℕ) × (chargesOf (worklist.run (rowSolver d y m₀) n q) ≡ chargesOf q ++ cs)
+  run-charges : (n : ℕ) (q : worklist.State (List ℕ)) → (cs : List ℕ) × (chargesOf (worklist.run (rowSolver d y m₀) n q) ≡ chargesOf q ++ cs)
   unfolding worklist.run
   run-charges zero q = ([], sym (append-nil (chargesOf q)))
   run-charges (suc n) q = go (q .ring .queue) (λ q′. run-charges n q′)
@@ -260,16 +274,8 @@ module _ (d : Direction) (y : Layout) (l : Limits) (m₀ t₀ : Mem) where
           let b = rest (worklist.visit (rowSolver d y m₀) c w q) in
           (a .0 ++ b .0, b .1 ∙ ap (λ (cs : List ℕ). cs ++ b .0) (a .1) ∙ append-assoc (chargesOf q) (a .0) (b .0))
 
--- a run in two parts
-pub run-parts : {W : Type 0} (a : worklist.Solver W) (k j : ℕ) (q : worklist.State W)
-    → worklist.run a (k + j) q ≡ worklist.run a j (worklist.run a k q)
-unfolding worklist.run
-run-parts a zero j q = rw (zero-add j) refl
-run-parts {W = W} a (suc k) j q = rw (suc-add k j) (go (q .ring .queue) refl (λ q′. run-parts a k j q′))
-  where
-    go : (z : List ℕ) → q .ring .queue ≡ z
-        → ((q′ : worklist.State W) → worklist.run a (k + j) q′ ≡ worklist.run a j (worklist.run a k q′))
-        → worklist.onFirst a (λ b r. worklist.run a (k + j) (worklist.visit a b r q)) z q
-        ≡ worklist.run a j (worklist.onFirst a (λ b r. worklist.run a k (worklist.visit a b r q)) z q)
-    go [] e rest = sym (run-stop a j q e)
-    go (b ∷ r) e rest = rest (worklist.visit a b r q)
+  -- so a longer run has those of a shorter one, and further ones
+  pub longer-charges : (k j : ℕ) (q : worklist.State (List ℕ))
+      → (cs : List ℕ) × (chargesOf (worklist.run (rowSolver d y m₀) (k + j) q) ≡ chargesOf (worklist.run (rowSolver d y m₀) k q) ++ cs)
+  longer-charges k j q =
+      let a = run-charges j (worklist.run (rowSolver d y m₀) k q) in (a .0, ap chargesOf (run-parts (rowSolver d y m₀) k j q) ∙ a .1)

@@ -3,6 +3,7 @@ use mathlib.Core.Path.{_≡_, refl, sym, ap, subst}
 use mathlib.Core.Bool.{Bool, true, false}
 use mathlib.Core.List.{List, [], _∷_, _++_, map-append, List·Memᴰ, List·Memᴰ·head, List·Memᴰ·tail, List·Memᴰ·not-nil, List·Memᴰ·cases-cons}
 use mathlib.Core.List.{Memᴰ·append-left, Memᴰ·append-right, List·Memᴰ·append-cases, Memᴰ·map}
+use mathlib.Core.List.{Sublistᴰ, Sublistᴰ·slnil, Sublistᴰ·nil-sublist, Sublistᴰ·refl, Sublistᴰ·append}
 use mathlib.Core.Logic.{_⊎_, inl, inr}
 use Prim.Native.Nat.{ℕ, _*_, _≤_, _<_}
 use native.Mathlib.Omega.{arith}
@@ -27,8 +28,7 @@ use Rattle.dataflow.proofs.Faults.{no-host}
 use Rattle.dataflow.proofs.Verdict.{accepts-iff}
 use Rattle.verdict.specs.Points.{Point, awaitPoints, blockPoints, points}
 use Rattle.verdict.specs.Ascending.{Ascending, instructionsOf}
-use Rattle.verdict.proofs.Sublists.{Sublist, done, sublist-none, sublist-self, sublist-append, sublist-length, sublist-mem, sublist-ascending}
-use Rattle.verdict.proofs.Sublists.{keep-sublist, range-ascending}
+use Rattle.verdict.proofs.Sublists.{sublist-length, sublist-mem, sublist-ascending, keep-sublist, range-ascending}
 
 module _ (code : List Instruction) (parameter : ℕ → Bool) where
   abbrev p : Program ℕ ℕ
@@ -49,7 +49,7 @@ module _ (code : List Instruction) (parameter : ℕ → Bool) where
   -- ── Their instructions ──
 
   -- the instructions of a list's points are its awaits
-  await-instructions : (g : ℕ → Bool) (is : List ℕ) → instructionsOf (awaitPoints code parameter g is) ≡ keep (awaitAt code) is
+  pub await-instructions : (g : ℕ → Bool) (is : List ℕ) → instructionsOf (awaitPoints code parameter g is) ≡ keep (awaitAt code) is
   unfolding awaitPoints
   await-instructions g [] = refl
   await-instructions g (i ∷ is) = go (awaitAt code i) (await-instructions g is)
@@ -62,25 +62,25 @@ module _ (code : List Instruction) (parameter : ℕ → Bool) where
 
   -- those of the blocks' points are awaits of the blocks, in order
   block-instructions : (words : ℕ) (cs : List ℕ)
-      → Sublist (instructionsOf (blockPoints code parameter words cs)) (keep (awaitAt code) (pointsOf (blockGraph code) cs))
+      → Sublistᴰ (instructionsOf (blockPoints code parameter words cs)) (keep (awaitAt code) (pointsOf (blockGraph code) cs))
   unfolding blockPoints
-  block-instructions words [] = done
+  block-instructions words [] = Sublistᴰ·slnil
   block-instructions words (c ∷ cs) =
       rw (keep-append (awaitAt code) (body code c) (pointsOf (blockGraph code) cs))
-      (subst (λ (z : List ℕ). Sublist z (keep (awaitAt code) (body code c) ++ keep (awaitAt code) (pointsOf (blockGraph code) cs)))
+      (subst (λ (z : List ℕ). Sublistᴰ z (keep (awaitAt code) (body code c) ++ keep (awaitAt code) (pointsOf (blockGraph code) cs)))
       (sym (map-append (λ (pt : Point). pt .instruction) (pointsIn words c) (blockPoints code parameter words cs)))
-      (sublist-append (go (reachable code c)) (block-instructions words cs)))
+      (Sublistᴰ·append (go (reachable code c)) (block-instructions words cs)))
     where
-      go : (t : Bool) → Sublist (instructionsOf (pick t (awaitPoints code parameter (liveExit code parameter words c) (body code c)) []))
+      go : (t : Bool) → Sublistᴰ (instructionsOf (pick t (awaitPoints code parameter (liveExit code parameter words c) (body code c)) []))
           (keep (awaitAt code) (body code c))
-      go true = rw (await-instructions (liveExit code parameter words c) (body code c)) (sublist-self (keep (awaitAt code) (body code c)))
-      go false = sublist-none (keep (awaitAt code) (body code c))
+      go true = rw (await-instructions (liveExit code parameter words c) (body code c)) (Sublistᴰ·refl (keep (awaitAt code) (body code c)))
+      go false = Sublistᴰ·nil-sublist (keep (awaitAt code) (body code c))
 
   module _ (words : ℕ) where
     -- the points' instructions are awaits of the code, in its order
-    pub points-instructions : Sublist (instructionsOf (points code parameter words)) (keep (awaitAt code) (range 0 (length code)))
+    pub points-instructions : Sublistᴰ (instructionsOf (points code parameter words)) (keep (awaitAt code) (range 0 (length code)))
     unfolding points
-    points-instructions = subst (λ (z : List ℕ). Sublist (instructionsOf (points code parameter words)) (keep (awaitAt code) z)) (blocks-cover code)
+    points-instructions = subst (λ (z : List ℕ). Sublistᴰ (instructionsOf (points code parameter words)) (keep (awaitAt code) z)) (blocks-cover code)
         (block-instructions words (range 0 (blockCount code)))
 
     -- The instructions of the points ascend strictly.

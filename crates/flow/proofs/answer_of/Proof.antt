@@ -1,24 +1,19 @@
+-- `flow::answer_of` meets its contract. Assumes nothing.
 use mathlib.Core.Path.{sym, ap}
 use Rattle.flow.specs.Verify.{answerIn}
 use borrow.Author.Needs.{needs}
 use Rattle.flow.proofs.answer_of.Statement.{statement}
 use Rattle.flow.proofs.answer_of.Tie as tie
-use Rattle.flow.proofs.answer_of.Reads as reads
-use Rattle.flow.proofs.answer_of.Lts as lts
 
--- src/lib.rt:62:28
 enum-known-e : tie.Need-enum-known-e
 enum-known-e c = search needs
 
--- src/lib.rt:65:27
 enum-known-e-2 : tie.Need-enum-known-e-2
 enum-known-e-2 c = search needs
 
--- src/lib.rt:58:1
 returns : tie.Need-returns
 returns c = ap answerIn (sym (c .before .e .given .1))
 
--- src/lib.rt:58:1
 returns-2 : tie.Need-returns-2
 returns-2 c = ap answerIn (sym (c .before .e2 .given .1))
 

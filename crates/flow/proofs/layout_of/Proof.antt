@@ -1,24 +1,19 @@
+-- `flow::layout_of` meets its contract. Assumes nothing.
 use mathlib.Core.Path.{sym, ap}
 use Rattle.flow.specs.Verify.{layoutIn}
 use borrow.Author.Needs.{needs}
 use Rattle.flow.proofs.layout_of.Statement.{statement}
 use Rattle.flow.proofs.layout_of.Tie as tie
-use Rattle.flow.proofs.layout_of.Reads as reads
-use Rattle.flow.proofs.layout_of.Lts as lts
 
--- src/lib.rt:47:31
 enum-known-e : tie.Need-enum-known-e
 enum-known-e c = search needs
 
--- src/lib.rt:48:39
 enum-told : tie.Need-enum-told
 enum-told c = search needs
 
--- src/lib.rt:43:1
 returns : tie.Need-returns
 returns c = ap layoutIn (sym (c .before .e .given .1))
 
--- src/lib.rt:43:1
 returns-2 : tie.Need-returns-2
 returns-2 c = ap layoutIn (sym (c .enum-told .given .1))
 
