@@ -2,4 +2,4 @@
 pub mod blocks;
 mod span;
 mod successors;
-mod transfer;
+pub mod transfer;

@@ -97,8 +97,16 @@ fn define_output(sheet: &[u8], s: &mut [u64], y: Layout, block: usize, i: Instru
     requires { ⌜ (Readable (now sheet) i) × Room y (length (now s)) × (block < y .blocks) × (AllBelow (64 * y .words) (listOf (outputOf (i .pattern .kind) (valuesOf (now sheet) i)))) ⌝ }
     ensures { λ _. ⌜ scratch y (now (s .exit)) ≡ storeCell (scratch y (now (s .entry))) (definesRow block) (insertedAll (listOf (outputOf (i .pattern .kind) (valuesOf (now (sheet .entry)) i))) (cell (scratch y (now (s .entry))) (definesRow block))) ⌝ }
 {
+    insert_output(sheet, s, y, y.defines(block), i);
+}
+
+// The output of an instruction joins a row.
+pub fn insert_output(sheet: &[u8], s: &mut [u64], y: Layout, row: usize, i: Instruction)
+    requires { ⌜ (Readable (now sheet) i) × Room y (length (now s)) × Row y row × (AllBelow (64 * y .words) (listOf (outputOf (i .pattern .kind) (valuesOf (now sheet) i)))) ⌝ }
+    ensures { λ _. ⌜ scratch y (now (s .exit)) ≡ storeCell (scratch y (now (s .entry))) row (insertedAll (listOf (outputOf (i .pattern .kind) (valuesOf (now (sheet .entry)) i))) (cell (scratch y (now (s .entry))) row)) ⌝ }
+{
     let SlotOperand::Is(slot) = instruction::slot_output(sheet, i) else {
         return;
     };
-    memory::scratch::insert(s, y, y.defines(block), slot.index());
+    memory::scratch::insert(s, y, row, slot.index());
 }

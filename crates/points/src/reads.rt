@@ -112,7 +112,7 @@ fn check_reads(
             }
             k += 1;
         }
-        slots::insert_output(sheet, s, y, state, p.instruction);
+        blocks::transfer::insert_output(sheet, s, y, state, p.instruction);
         awaits += await_count(p.instruction.pattern.kind);
         pc += 1;
     }

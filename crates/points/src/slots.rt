@@ -35,17 +35,6 @@ pub fn misses_input(
     !memory::scratch::contains(s, y, row, slot.index())
 }
 
-// The output joins a row.
-pub fn insert_output(sheet: &[u8], s: &mut [u64], y: Layout, row: usize, i: Instruction)
-    requires { ⌜ (Readable (now sheet) i) × Room y (length (now s)) × Row y row × (AllBelow (64 * y .words) (listOf (outputOf (i .pattern .kind) (valuesOf (now sheet) i)))) ⌝ }
-    ensures { λ _. ⌜ scratch y (now (s .exit)) ≡ storeCell (scratch y (now (s .entry))) row (insertedAll (listOf (outputOf (i .pattern .kind) (valuesOf (now (sheet .entry)) i))) (cell (scratch y (now (s .entry))) row)) ⌝ }
-{
-    let SlotOperand::Is(slot) = instruction::slot_output(sheet, i) else {
-        return;
-    };
-    memory::scratch::insert(s, y, row, slot.index());
-}
-
 // The output leaves a row.
 pub fn remove_output(sheet: &[u8], s: &mut [u64], y: Layout, row: usize, i: Instruction)
     requires { ⌜ (Readable (now sheet) i) × Room y (length (now s)) × Row y row × (AllBelow (64 * y .words) (listOf (outputOf (i .pattern .kind) (valuesOf (now sheet) i)))) ⌝ }

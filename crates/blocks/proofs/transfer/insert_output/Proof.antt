@@ -1,4 +1,4 @@
--- `points::slots::insert_output` meets its contract. Assumes nothing.
+-- `blocks::transfer::insert_output` meets its contract. Assumes nothing.
 use Prim.Native.Nat.{_*_}
 use native.Mathlib.Omega.{arith}
 use denote.Ref.{now}
@@ -6,12 +6,12 @@ use Rattle.memory.specs.Scratch.{scratch}
 use Rattle.operands.specs.Instructions.{valuesOf}
 use Rattle.operands.specs.Operands.{outputOf}
 use Rattle.script.specs.Script.{listOf}
 use Rattle.blocks.proofs.OperandLaws.{output-there, output-missing, below-first}
 use Rattle.blocks.proofs.UseLaws.{defined-one, defined-none}
 use mathlib.Core.Path.{refl}
 use borrow.Author.Needs.{needs}
-use Rattle.points.proofs.slots.insert_output.Statement.{statement}
-use Rattle.points.proofs.slots.insert_output.Tie as tie
+use Rattle.blocks.proofs.transfer.insert_output.Statement.{statement}
+use Rattle.blocks.proofs.transfer.insert_output.Tie as tie
 
 slot-output-requires : tie.Need-slot-output-requires
 slot-output-requires c κs = search needs
