@@ -22,7 +22,8 @@ use Rattle.blocks.specs.Rows.{usedIn, Transfer, transferOne, transferAll
 
 -- ---- the outputs put in
 
-among-elem : (k : ℕ) (l : List ℕ) → among k l ≡ elem k l
+-- in a list by either test
+pub among-elem : (k : ℕ) (l : List ℕ) → among k l ≡ elem k l
 among-elem k [] = refl
 among-elem k (x ∷ l) = ap (λ (t : Bool). eqb k x || t) (among-elem k l)
 

@@ -1,13 +1,11 @@
 -- What the words of scratch hold of a script once its blocks are built, its edges joined and its reachable blocks marked. Assumes nothing.
 use mathlib.Core.Path.{_≡_, refl, ap, _∙_}
-use mathlib.Core.Bool.{Bool, false, _||_}
+use mathlib.Core.Bool.{Bool, false}
 use mathlib.Core.List.{List, [], _∷_}
 use Prim.Native.Nat.{ℕ, _+_, _*_, _≤_, _<_}
 use native.Mathlib.Omega.{arith}
-use lib.Dec.{eqb}
 use lib.ListN.{getD}
 use Rattle.bitset.specs.Sets.{member}
-use Rattle.dataflow.specs.Lists.{elem}
 use Rattle.dataflow.specs.Code.{Instruction, blockSuccessors}
 use Rattle.dataflow.proofs.Lists.{mem-getD}
 use Rattle.dataflow.proofs.CodeBlocks.{successors-below, blocks-some}
@@ -37,7 +35,6 @@ use Rattle.memory.specs.Names.{
 }
 use Rattle.memory.specs.declared.layout.Layout.{Layout}
 use Rattle.memory.proofs.CellLaws.{same-word}
-use Rattle.operands.specs.Patterns.{among}
 use Rattle.sheet.specs.declared.script.Script.{Script}
 use Rattle.sheet.specs.Decode.{partsOf}
 use Rattle.instructions.proofs.SetMembers.{parameters-in-row}
@@ -50,15 +47,11 @@ use Rattle.edges.specs.Flow.{Flows}
 use Rattle.edges.proofs.EdgeLaws.{holds-kept}
 use Rattle.edges.proofs.ResultLaws.{linked-holds, reached-holds, chained-kept, reached-chained}
 use Rattle.blocks.specs.Blocks.{Ready, Block}
+use Rattle.blocks.proofs.MemberLaws.{among-elem}
 use Rattle.blocks.proofs.ReadLaws.{targets-everywhere}
 use Rattle.blocks.proofs.CodeLaws.{few-successors}
 use Rattle.blocks.proofs.BlockLaws.{ready-kept}
 use Rattle.graph.specs.Graph.{Holding, Joined}
-
--- a slot is a parameter by either test
-among-elem : (k : ℕ) (xs : List ℕ) → among k xs ≡ elem k xs
-among-elem k [] = refl
-among-elem k (x ∷ xs) = ap (λ (t : Bool). eqb k x || t) (among-elem k xs)
 
 -- a block's words and rows stay where their cells stay
 pub block-kept : {code : List Instruction} {parameter : ℕ → Bool} {m m′ : Mem} {c : ℕ} → cell m′ costCell ≡ cell m costCell
