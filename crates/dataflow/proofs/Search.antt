@@ -218,16 +218,16 @@ module _ (next : ℕ → List ℕ) where
     pub postorder-length : length (whole .visited) ≡ n
     postorder-length = ended .0 .visits .len
 
-    none-todo : Visits next n root (whole .visited) [] (whole .finished)
-    none-todo = rw (ended .1) at (ended .0 .visits)
+    none-waiting : Visits next n root (whole .visited) [] (whole .finished)
+    none-waiting = rw (ended .1) at (ended .0 .visits)
 
     -- visits exactly what paths reach,
     pub postorder-visits : (b : ℕ) → Visited (whole .visited) b ↔ From next root b
-    postorder-visits = visits-exact next n root (whole .visited) (whole .finished) none-todo (ended .0 .closed)
+    postorder-visits = visits-exact next n root (whole .visited) (whole .finished) none-waiting (ended .0 .closed)
 
     -- lists exactly that, each block once,
     pub postorder-lists : NoDup (whole .finished) × ((b : ℕ) → List·Memᴰ b (whole .finished) ↔ From next root b)
-    postorder-lists = done-exact next n root (whole .visited) (whole .finished) none-todo (ended .0 .closed)
+    postorder-lists = done-exact next n root (whole .visited) (whole .finished) none-waiting (ended .0 .closed)
 
     -- ── and takes one turn for each of these blocks and one for each of their edges ──
 

@@ -45,7 +45,7 @@ slotFault s at =
     (due (badSlot s (at + 4) (endAt s at)) BadBody
     none))
 
--- the largest physical byte beside types up to this one: below the host types no host handle, which is 10, counts either
+-- the largest physical byte that counts beside types up to top: 12, or 9 where top is below the host types, so that no host handle, 10, counts
 abbrev pub topPhysical : ℕ → ℕ
 topPhysical top = pick (leb top 1) 9 12
 

@@ -45,14 +45,16 @@ awaitsFrom s at (suc n) = oneIf (isAwait (kindAt s at)) + awaitsFrom s (endAt s 
 abbrev pub anySlots : List ℕ → ℕ → ℕ → Step
 anySlots s slots at = stepOf (firstOf (λ a. slotFault s a) s at slots) (offsetOf s at slots) 258
 
--- the same with the words of host slots
+-- the same where all of a sheet's slot records are walked: with the words of host slots
 abbrev pub slotsOf : Option Refusal → ℕ → ℕ → Slots
 slotsOf (some r) end words = Halt r
 slotsOf none end words = Through end words
 
+-- what the walk over all slot records answers
 abbrev pub walkedSlots : List ℕ → ℕ → ℕ → Slots
 walkedSlots s slots at = slotsOf (firstOf (λ a. slotFault s a) s at slots) (offsetOf s at slots) (hostWords s at slots 0 0)
 
+-- the refusal in it; where all passed, it says nothing
 abbrev pub refusalInSlots : Slots → Refusal
 refusalInSlots (Halt r) = r
 refusalInSlots (Through end words) = ShortSheet
@@ -62,10 +64,12 @@ abbrev pub codeOf : Option Refusal → ℕ → ℕ → ℕ → Code
 codeOf (some r) end last awaits = Stop r
 codeOf none end last awaits = Ended end last awaits
 
+-- what the walk over all instruction records answers
 abbrev pub walkedCode : List ℕ → ℕ → ℕ → ℕ → Code
 walkedCode s slots n at =
     codeOf (firstOf (λ a. instructionFault s slots n a) s at n) (offsetOf s at n) (lastKind s at n 0) (awaitsFrom s at n)
 
+-- the refusal in it; where all passed, it says nothing
 abbrev pub refusalInCode : Code → Refusal
 refusalInCode (Stop r) = r
 refusalInCode (Ended end last awaits) = ShortSheet
