@@ -24,8 +24,8 @@ use Rattle.sheet.specs.declared.script.Script.{Script}
 use Rattle.sheet.specs.Decode.{partsOf}
 use Rattle.script.specs.Script.{parameterIn, hostIn}
 use Rattle.edges.proofs.EdgeLaws.{flag-yes, flag-no}
-use Rattle.solver.specs.declared.direction.Direction.the-variants.{Initialization, Liveness}
-use Rattle.solver.specs.Transfer.{runningRow, gathered}
+use Rattle.transfer.specs.declared.direction.Direction.the-variants.{Initialization, Liveness}
+use Rattle.transfer.specs.Transfer.{runningRow, gathered}
 use Rattle.answer.specs.Words.{Means}
 use Rattle.verdict.specs.Points.{Checking, on, andThen, Point, readsRun, awaitsRun, blockRun, awaitPoints}
 use Rattle.points.specs.declared.awaits.Points.{Points}

@@ -22,10 +22,10 @@ use Rattle.sheet.specs.declared.script.Script.{Script}
 use Rattle.sheet.specs.Decode.{partsOf}
 use Rattle.script.specs.Script.{parameterIn}
 use Rattle.edges.proofs.FlowLaws.{Still, flows-still}
-use Rattle.solver.specs.declared.direction.Direction.{Direction}
-use Rattle.solver.specs.declared.direction.Direction.the-variants.{Initialization, Liveness}
-use Rattle.solver.specs.Neighbors.{Connected}
-use Rattle.solver.specs.Transfer.{runningRow, gathered}
+use Rattle.transfer.specs.declared.direction.Direction.{Direction}
+use Rattle.transfer.specs.declared.direction.Direction.the-variants.{Initialization, Liveness}
+use Rattle.transfer.specs.Neighbors.{Connected}
+use Rattle.transfer.specs.Transfer.{runningRow, gathered}
 use Rattle.fixed_points.specs.FixedPoints.{Sets}
 use Rattle.fixed_points.proofs.CodeGraph.{connected}
 use Rattle.fixed_points.proofs.Gathered.{incoming-bits, live-out-bits}

@@ -9,8 +9,8 @@ use points::awaits::Points;
 use points::reads;
 use points::reads::Reads;
 use sheet::script::Script;
-use solver::direction::Direction;
-use solver::transfer;
+use transfer::compute;
+use transfer::direction::Direction;
 ghost use mathlib.Core.Path.{_≡_};
 ghost use mathlib.Core.Bool.{true};
 ghost use lib.ListN.{length};
@@ -83,7 +83,7 @@ fn check_reached(
     requires { ⌜ Room y (length (now s)) × SetsRoom y (length (now t)) × (Facing (now sheet) script y block place (scratch y (now s)) (sets y (now t))) × (reachable (codeOf (now sheet)) block ≡ true) ⌝ }
     ensures { λ r. ⌜ BlockChecked (now (sheet .entry)) script y limits budget block place (scratch y (now (s .entry))) (scratch y (now (s .exit))) (sets y (now (t .entry))) (sets y (now (t .exit))) r ⌝ }
 {
-    transfer::gather(s, t, y, Direction::Initialization, block);
+    compute::gather(s, t, y, Direction::Initialization, block);
     let start = memory::scratch::get(s, y, layout::START, block) as usize;
     let end = memory::scratch::get(s, y, layout::END, block) as usize;
     let r = reads::block_reads(sheet, s, script, y, block, start, end, limits, budget);
@@ -161,7 +161,7 @@ fn check_leaving(
     requires { ⌜ Room y (length (now s)) × SetsRoom y (length (now t)) × (Counted (now sheet) script y block start end place found (scratch y (now s)) (sets y (now t))) ⌝ }
     ensures { λ r. ⌜ FoundChecked (now (sheet .entry)) script y limits budget block place found (scratch y (now (s .entry))) (scratch y (now (s .exit))) (sets y (now (t .entry))) (sets y (now (t .exit))) r ⌝ }
 {
-    transfer::gather(s, t, y, Direction::Liveness, block);
+    compute::gather(s, t, y, Direction::Liveness, block);
     let next = place + found;
     let p = awaits::check_awaits(sheet, s, t, script, y, start, end, next, limits, budget);
     raised(p, next)

@@ -31,10 +31,10 @@ use Rattle.memory.proofs.CellLaws.{Sized}
 use Rattle.edges.specs.Edges.{marked}
 use Rattle.bitset.specs.Below.{AllBelow}
 use Rattle.bitset.proofs.Below.{below-mem}
-use Rattle.solver.specs.declared.direction.Direction.{Direction}
-use Rattle.solver.specs.declared.direction.Direction.the-variants.{Initialization, Liveness}
-use Rattle.solver.specs.Neighbors.{readsOf, dependentsOf, neighbors}
-use Rattle.solver.specs.Transfer.{entryOf, transferred}
+use Rattle.transfer.specs.declared.direction.Direction.{Direction}
+use Rattle.transfer.specs.declared.direction.Direction.the-variants.{Initialization, Liveness}
+use Rattle.transfer.specs.Neighbors.{readsOf, dependentsOf, neighbors}
+use Rattle.transfer.specs.Transfer.{entryOf, transferred}
 use Rattle.propagate.specs.Rounds.{gatherRow, gatherRows, rowSolver}
 use Rattle.edges.specs.Flow.{Flows}
 use Rattle.fixed_points.specs.FixedPoints.{Scripted}

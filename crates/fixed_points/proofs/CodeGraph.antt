@@ -19,12 +19,12 @@ use Rattle.memory.proofs.CellLaws.{Sized}
 use Rattle.memory.proofs.ScratchLaws.{sized-blocks}
 use Rattle.edges.specs.Edges.{marked}
 use Rattle.edges.specs.Predecessors.{predecessorsOf}
-use Rattle.solver.specs.declared.direction.Direction.{Direction}
-use Rattle.solver.specs.declared.direction.Direction.the-variants.{Initialization, Liveness}
-use Rattle.solver.specs.declared.direction.Side.{Side}
-use Rattle.solver.specs.declared.direction.Side.the-variants.{Successors, Predecessors}
-use Rattle.solver.specs.Neighbors.{countOf, neighbors, Connected}
-use Rattle.solver.proofs.NeighborLaws.{neighbors-none}
+use Rattle.transfer.specs.declared.direction.Direction.{Direction}
+use Rattle.transfer.specs.declared.direction.Direction.the-variants.{Initialization, Liveness}
+use Rattle.transfer.specs.declared.direction.Side.{Side}
+use Rattle.transfer.specs.declared.direction.Side.the-variants.{Successors, Predecessors}
+use Rattle.transfer.specs.Neighbors.{countOf, neighbors, Connected}
+use Rattle.transfer.proofs.NeighborLaws.{neighbors-none}
 use Rattle.propagate.proofs.Graphs as graphs
 use Rattle.edges.specs.Flow.{Flows}
 use Rattle.edges.proofs.EdgeLaws.{marked-flag, flag-few}

@@ -27,10 +27,10 @@ use Rattle.edges.proofs.FlowLaws.{Still, flows-still}
 use Rattle.order.specs.declared.Ordered.{Ordered}
 use Rattle.order.specs.declared.Ordered.the-variants as ordering
 use Rattle.order.specs.Postorder.{searchedFrom, searchCharges, chargedIn, Searched}
-use Rattle.solver.specs.declared.direction.Direction.{Direction}
-use Rattle.solver.specs.declared.direction.Direction.the-variants.{Initialization, Liveness}
+use Rattle.transfer.specs.declared.direction.Direction.{Direction}
+use Rattle.transfer.specs.declared.direction.Direction.the-variants.{Initialization, Liveness}
 use Rattle.propagate.specs.Rounds.{Seedable, Propagated}
-use Rattle.solver.proofs.TransferLaws.{running-at}
+use Rattle.transfer.proofs.TransferLaws.{running-at}
 use Rattle.edges.specs.Flow.{Flows}
 use Rattle.fixed_points.specs.FixedPoints.{roundsCharges, Fixed}
 use Rattle.fixed_points.specs.Stages.{Flowing, InOrder, Ready, RoundsDone}

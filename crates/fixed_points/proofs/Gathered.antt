@@ -1,4 +1,4 @@
--- What `gather` of crate `solver` computes after both rounds: the sets at a block's entry and exit, bit by bit. Assumes nothing.
+-- What `gather` of crate `transfer` computes after both rounds: the sets at a block's entry and exit, bit by bit. Assumes nothing.
 use mathlib.Core.Path.{_≡_, sym, ap, ap₂, _∙_, subst}
 use mathlib.Core.Bool.{Bool, true, false, not, _&&_, _||_}
 use mathlib.Core.List.{List, [], map}
@@ -22,10 +22,10 @@ use Rattle.memory.specs.declared.layout.Layout.{Layout}
 use Rattle.edges.specs.Flow.{Flows}
 use Rattle.edges.proofs.FlowLaws.{Still}
 use Rattle.bitset.specs.Below.{AllBelow}
-use Rattle.solver.specs.declared.direction.Direction.{Direction}
-use Rattle.solver.specs.declared.direction.Direction.the-variants.{Initialization, Liveness}
-use Rattle.solver.specs.Neighbors.{readsOf, neighbors}
-use Rattle.solver.specs.Transfer.{keptRow, entryOf, gathered}
+use Rattle.transfer.specs.declared.direction.Direction.{Direction}
+use Rattle.transfer.specs.declared.direction.Direction.the-variants.{Initialization, Liveness}
+use Rattle.transfer.specs.Neighbors.{readsOf, neighbors}
+use Rattle.transfer.specs.Transfer.{keptRow, entryOf, gathered}
 use Rattle.propagate.specs.Rounds.{rowsOf, gatherRows}
 use Rattle.propagate.proofs.Fixed.{kept-among, fixed-none, gather-all}
 use Rattle.fixed_points.specs.FixedPoints.{Scripted, Sets, Fixed}

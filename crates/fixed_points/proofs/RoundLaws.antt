@@ -34,10 +34,10 @@ use Rattle.memory.specs.Scratch.{scratchWidths}
 use Rattle.memory.specs.declared.layout.Layout.{Layout}
 use Rattle.memory.proofs.CellLaws.{Sized}
 use Rattle.memory.proofs.ScratchLaws.{sized-blocks}
-use Rattle.solver.specs.declared.direction.Direction.{Direction}
-use Rattle.solver.specs.declared.direction.Direction.the-variants.{Initialization, Liveness}
-use Rattle.solver.specs.Neighbors.{readsOf, dependentsOf, neighbors}
-use Rattle.solver.specs.Transfer.{keptRow}
+use Rattle.transfer.specs.declared.direction.Direction.{Direction}
+use Rattle.transfer.specs.declared.direction.Direction.the-variants.{Initialization, Liveness}
+use Rattle.transfer.specs.Neighbors.{readsOf, dependentsOf, neighbors}
+use Rattle.transfer.specs.Transfer.{keptRow}
 use Rattle.solver.specs.Run.{queueOf}
 use Rattle.propagate.specs.Rounds.{rowsOf, rowSolver, beginning, roundRun, roundCharges, Propagated}
 use Rattle.propagate.proofs.RingWords.{marks-at}

@@ -4,7 +4,7 @@ use budget::FlowBudget;
 use budget::Limits;
 use memory::layout::Layout;
 use order::Ordered;
-use solver::direction::Direction;
+use transfer::direction::Direction;
 ghost use mathlib.Core.Path.{_≡_};
 ghost use Prim.Native.Nat.{_-_, _^_, _<_};
 ghost use lib.ListN.{length};

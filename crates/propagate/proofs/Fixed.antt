@@ -18,13 +18,13 @@ use Rattle.memory.specs.Names.{predecessorCountCell, usesRow, definesRow, param
 use Rattle.memory.specs.declared.layout.Layout.{Layout}
 use Rattle.memory.proofs.CellLaws.{cell-store-same, cell-store-other}
 use Rattle.bitset.specs.Below.{AllBelow}
-use Rattle.solver.specs.declared.direction.Direction.{Direction}
-use Rattle.solver.specs.declared.direction.Direction.the-variants.{Initialization, Liveness}
-use Rattle.solver.specs.declared.direction.Side.{Side}
-use Rattle.solver.specs.Neighbors.{readsOf, countOf, firstOf, nextOf, endOf, edgesFrom, neighborsFrom, neighbors, Connected}
-use Rattle.solver.specs.Transfer.{runningRow, keptRow, entryOf, gatherOne, gatherAll, gathered, transferred, computed}
-use Rattle.solver.proofs.NeighborLaws.{SameEdges, neighbors-kept}
-use Rattle.solver.proofs.TransferLaws.{running-at, transferred-kept}
+use Rattle.transfer.specs.declared.direction.Direction.{Direction}
+use Rattle.transfer.specs.declared.direction.Direction.the-variants.{Initialization, Liveness}
+use Rattle.transfer.specs.declared.direction.Side.{Side}
+use Rattle.transfer.specs.Neighbors.{readsOf, countOf, firstOf, nextOf, endOf, edgesFrom, neighborsFrom, neighbors, Connected}
+use Rattle.transfer.specs.Transfer.{runningRow, keptRow, entryOf, gatherOne, gatherAll, gathered, transferred, computed}
+use Rattle.transfer.proofs.NeighborLaws.{SameEdges, neighbors-kept}
+use Rattle.transfer.proofs.TransferLaws.{running-at, transferred-kept}
 use Rattle.propagate.specs.Rounds.{rowsOf, gatherRow, gatherRows, rowSolver}
 
 -- ---- the rows that a round keeps

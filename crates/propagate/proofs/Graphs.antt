@@ -12,10 +12,10 @@ use Rattle.edges.specs.Edges.{Holds}
 use Rattle.bitset.specs.Below.{AllBelow}
 use Rattle.edges.specs.Predecessors.{chainFrom, predecessorsOf, Chained}
 use Rattle.edges.proofs.ResultLaws.{count-few}
-use Rattle.solver.specs.declared.direction.Side.{Side}
-use Rattle.solver.specs.declared.direction.Side.the-variants.{Successors, Predecessors}
+use Rattle.transfer.specs.declared.direction.Side.{Side}
+use Rattle.transfer.specs.declared.direction.Side.the-variants.{Successors, Predecessors}
 use Rattle.bitset.proofs.Below.{below-all}
-use Rattle.solver.specs.Neighbors.{countOf, firstOf, endOf, edgesFrom, neighborsFrom, neighbors, Connected}
+use Rattle.transfer.specs.Neighbors.{countOf, firstOf, endOf, edgesFrom, neighborsFrom, neighbors, Connected}
 
 -- the edges that lead to a block are its chain
 pub edges-chain : (m : Mem) (n e : ℕ) → edgesFrom Predecessors m n e ≡ chainFrom m n e

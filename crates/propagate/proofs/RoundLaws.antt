@@ -23,13 +23,13 @@ use Rattle.memory.proofs.ScratchLaws.{scratch-count, sized-blocks}
 use Rattle.memory.proofs.SetsLaws.{sets-count}
 use Rattle.edges.specs.Edges.{marked}
 use Rattle.bitset.specs.Below.{AllBelow}
-use Rattle.solver.specs.declared.direction.Direction.{Direction}
-use Rattle.solver.specs.declared.direction.Direction.the-variants.{Initialization, Liveness}
+use Rattle.transfer.specs.declared.direction.Direction.{Direction}
+use Rattle.transfer.specs.declared.direction.Direction.the-variants.{Initialization, Liveness}
 use Rattle.solver.specs.declared.ring.Ring.{Ring}
 use Rattle.solver.specs.declared.ring.Turn.{Turn}
 use Rattle.solver.specs.declared.ring.Turn.the-variants.{Stop, Done}
 use Rattle.solver.specs.Run.{At, Out, stop, on, atOf, outOf, paid, run, Good, Idle, queueOf, inRing, cleared, seeded, full}
-use Rattle.solver.proofs.NeighborLaws.{connected-kept}
+use Rattle.transfer.proofs.NeighborLaws.{connected-kept}
 use Rattle.solver.proofs.SeedLaws.{queue-length}
 use Rattle.propagate.specs.Rounds.{rowSolver, beginning, roundRun, roundCharges, chargedOf, Seedable, Propagated}
 use Rattle.bitset.proofs.Below.{below-append}

@@ -20,11 +20,11 @@ use Rattle.memory.proofs.CellLaws.{cell-store-same, cell-store-other}
 use Rattle.bitset.specs.Below.{AllBelow}
 use Rattle.edges.specs.Edges.{marked}
 use Rattle.edges.proofs.EdgeLaws.{marked-yes, marked-no}
-use Rattle.solver.specs.declared.direction.Direction.{Direction}
+use Rattle.transfer.specs.declared.direction.Direction.{Direction}
 use Rattle.solver.specs.declared.ring.Ring.{Ring}
-use Rattle.solver.specs.Transfer.{runningRow, keptRow}
+use Rattle.transfer.specs.Transfer.{runningRow, keptRow}
 use Rattle.solver.specs.Run.{At, atOf, wrap, popped, pushed, offered, firstIn}
-use Rattle.solver.proofs.TransferLaws.{row-other}
+use Rattle.transfer.proofs.TransferLaws.{row-other}
 use Rattle.solver.proofs.RingLaws.{wrap-lt, pushed-marks, pushed-ring}
 use Rattle.propagate.specs.Rounds.{rowsOf, rowSolver}
 use Rattle.bitset.proofs.Below.{below-append}

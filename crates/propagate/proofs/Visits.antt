@@ -24,13 +24,13 @@ use Rattle.memory.specs.Cells.{Mem, cell, storeCell}
 use Rattle.memory.specs.Names.{ringCell}
 use Rattle.memory.specs.declared.layout.Layout.{Layout}
 use Rattle.memory.proofs.CellLaws.{cell-store-same}
-use Rattle.solver.specs.declared.direction.Direction.{Direction}
-use Rattle.solver.specs.Neighbors.{readsOf, dependentsOf, neighbors, Connected}
-use Rattle.solver.specs.Transfer.{runningRow, keptRow, computed}
+use Rattle.transfer.specs.declared.direction.Direction.{Direction}
+use Rattle.transfer.specs.Neighbors.{readsOf, dependentsOf, neighbors, Connected}
+use Rattle.transfer.specs.Transfer.{runningRow, keptRow, computed}
 use Rattle.solver.specs.Run.{At, Out, on, atOf, paid, onward, popped, offered, told, settled, visitCharge, firstIn, unmarked, withComputed, visited}
 use Rattle.solver.specs.Run.{run}
-use Rattle.solver.proofs.NeighborLaws.{count-kept, neighbors-kept}
-use Rattle.solver.proofs.TransferLaws.{running-at}
+use Rattle.transfer.proofs.NeighborLaws.{count-kept, neighbors-kept}
+use Rattle.transfer.proofs.TransferLaws.{running-at}
 use Rattle.propagate.specs.Rounds.{rowSolver}
 use Rattle.propagate.proofs.RingWords.{ring-none}
 use Rattle.propagate.proofs.Fixed.{fixed-edges, fixed-computed, neighbors-long, rows-at}

@@ -18,19 +18,19 @@ use Rattle.memory.specs.Cells.{Mem, cell, word}
 use Rattle.memory.specs.Names.{orderCell, queuedCell, reachableCell, ringCell}
 use Rattle.memory.specs.declared.layout.Layout.{Layout}
 use Rattle.edges.specs.Edges.{marked}
-use Rattle.solver.specs.declared.direction.Direction.{Direction}
-use Rattle.solver.specs.declared.direction.Direction.the-variants.{Initialization, Liveness}
+use Rattle.transfer.specs.declared.direction.Direction.{Direction}
+use Rattle.transfer.specs.declared.direction.Direction.the-variants.{Initialization, Liveness}
 use Rattle.solver.specs.declared.ring.Turn.{Turn}
 use Rattle.solver.specs.declared.ring.Turn.the-variants.{Stop, Done}
-use Rattle.solver.specs.Neighbors.{readsOf, dependentsOf, neighbors, Connected}
-use Rattle.solver.specs.Transfer.{runningRow, keptRow, entryOf, transferred}
+use Rattle.transfer.specs.Neighbors.{readsOf, dependentsOf, neighbors, Connected}
+use Rattle.transfer.specs.Transfer.{runningRow, keptRow, entryOf, transferred}
 use Rattle.solver.specs.Run.{queueOf}
 
 -- the rows that a round keeps, one a block
 unfoldable pub rowsOf : Direction → Layout → Mem → List (List ℕ)
 rowsOf d y t = tabulate 0 (y .blocks) (λ b. cell t (keptRow d b))
 
--- `gatherOne` and `gatherAll` of crate `solver`, over these rows
+-- `gatherOne` and `gatherAll` of crate `transfer`, over these rows
 unfoldable pub gatherRow : Direction → Mem → List (List ℕ) → ℕ → List ℕ → List ℕ
 gatherRow Initialization m rows p x = pick (eqb (word m reachableCell p) 0) x (meet x (getD rows p []))
 gatherRow Liveness m rows p x = join x (getD rows p [])

@@ -16,7 +16,7 @@ use Rattle.memory.proofs.CellLaws.{Sized, cell-store-same, cell-store-other}
 use Rattle.memory.proofs.ScratchLaws.{sized-among, sized-blocks}
 use Rattle.solver.specs.declared.ring.Ring.{Ring}
 use Rattle.solver.specs.Run.{At, atOf, wrap, pushed, offered, popped, Good, Offers}
-use Rattle.solver.proofs.NeighborLaws.{SameEdges, same-none, same-stored, same-then, connected-kept}
+use Rattle.transfer.proofs.NeighborLaws.{SameEdges, same-none, same-stored, same-then, connected-kept}
 
 -- ---- sums of marks
 

@@ -18,17 +18,17 @@ use Rattle.memory.specs.Names.{queuedCell, ringCell}
 use Rattle.memory.specs.Scratch.{scratchWidths}
 use Rattle.memory.specs.declared.layout.Layout.{Layout}
 use Rattle.memory.proofs.CellLaws.{Sized}
-use Rattle.solver.specs.declared.direction.Direction.{Direction}
-use Rattle.solver.specs.declared.direction.Side.{Side}
+use Rattle.transfer.specs.declared.direction.Direction.{Direction}
+use Rattle.transfer.specs.declared.direction.Side.{Side}
 use Rattle.solver.specs.declared.ring.Ring.{Ring}
 use Rattle.solver.specs.declared.ring.Turn.{Turn}
 use Rattle.solver.specs.declared.ring.Turn.the-variants.{Stop, Done}
-use Rattle.solver.specs.Neighbors.{dependentsOf, countOf, firstOf, nextOf, endOf, neighborsFrom, neighbors}
-use Rattle.solver.specs.Transfer.{runningRow, keptRow, computed}
+use Rattle.transfer.specs.Neighbors.{dependentsOf, countOf, firstOf, nextOf, endOf, neighborsFrom, neighbors}
+use Rattle.transfer.specs.Transfer.{runningRow, keptRow, computed}
 use Rattle.solver.specs.Run.{At, Out, stop, on, atOf, outOf, paid, onward, offered, told, settled, popped, visitCharge, visited, run}
 use Rattle.solver.specs.Run.{Good, Went, Offers, Tells, wrap}
-use Rattle.solver.proofs.NeighborLaws.{SameEdges, same-none, same-then, end-kept, next-kept, ends-more, ends-over, Walk, walk-end, walk-more}
-use Rattle.solver.proofs.TransferLaws.{running-at}
+use Rattle.transfer.proofs.NeighborLaws.{SameEdges, same-none, same-then, end-kept, next-kept, ends-more, ends-over, Walk, walk-end, walk-more}
+use Rattle.transfer.proofs.TransferLaws.{running-at}
 use Rattle.solver.proofs.RingLaws.{Kept, good-row, popped-good, offers-kept}
 
 -- a charge that was met: the sum did not saturate, since the limit is below the largest number

@@ -11,8 +11,8 @@ use lib.Seq.{getD-take, length-take-le, take-at, set-getD, paste, paste-suc}
 use Rattle.memory.specs.Cells.{Mem, cell, word, store, storeCell}
 use Rattle.memory.specs.Names.{orderCell, ringCell}
 use Rattle.memory.proofs.CellLaws.{word-cell-other, store-then}
-use Rattle.solver.specs.declared.direction.Direction.{Direction}
-use Rattle.solver.specs.declared.direction.Direction.the-variants.{Initialization, Liveness}
+use Rattle.transfer.specs.declared.direction.Direction.{Direction}
+use Rattle.transfer.specs.declared.direction.Direction.the-variants.{Initialization, Liveness}
 use Rattle.solver.specs.Run.{queueOf, placeOf, inRing}
 
 -- ---- a list read from its back

@@ -15,13 +15,13 @@ use Rattle.budget.specs.Budget.{charged}
 use Rattle.memory.specs.Cells.{Mem, cell, word, store, storeCell}
 use Rattle.memory.specs.Names.{orderCell, queuedCell, reachableCell, ringCell}
 use Rattle.memory.specs.declared.layout.Layout.{Layout}
-use Rattle.solver.specs.declared.direction.Direction.{Direction}
-use Rattle.solver.specs.declared.direction.Direction.the-variants.{Initialization, Liveness}
+use Rattle.transfer.specs.declared.direction.Direction.{Direction}
+use Rattle.transfer.specs.declared.direction.Direction.the-variants.{Initialization, Liveness}
 use Rattle.solver.specs.declared.ring.Ring.{Ring}
 use Rattle.solver.specs.declared.ring.Turn.{Turn}
 use Rattle.solver.specs.declared.ring.Turn.the-variants.{Stop, Done}
-use Rattle.solver.specs.Neighbors.{readsOf, dependentsOf, countOf, neighbors, Connected}
-use Rattle.solver.specs.Transfer.{runningRow, keptRow, computed}
+use Rattle.transfer.specs.Neighbors.{readsOf, dependentsOf, countOf, neighbors, Connected}
+use Rattle.transfer.specs.Transfer.{runningRow, keptRow, computed}
 
 -- both buffers, with the ring's place
 pub record At : Type 0 where

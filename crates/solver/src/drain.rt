@@ -1,15 +1,15 @@
 // The visits of `propagate`.
-use crate::direction::Direction;
-use crate::neighbors;
 use crate::ring;
 use crate::ring::Ring;
 use crate::ring::Turn;
-use crate::transfer;
 use budget::Charged;
 use budget::FlowBudget;
 use budget::Limits;
 use memory::layout;
 use memory::layout::Layout;
+use transfer::compute;
+use transfer::direction::Direction;
+use transfer::neighbors;
 ghost use mathlib.Core.Path.{_≡_};
 ghost use mathlib.Core.List.{[], _∷_};
 ghost use Prim.Native.Nat.{_+_, _*_, _-_, _^_, _≤_, _<_};
@@ -17,7 +17,7 @@ ghost use lib.ListN.{length};
 ghost use Rattle.budget.specs.Budget.{charged};
 ghost use Rattle.memory.specs.Scratch.{scratch, Room};
 ghost use Rattle.memory.specs.Sets.{sets, SetsRoom};
-ghost use Rattle.solver.specs.Neighbors.{dependentsOf, neighbors, Connected};
+ghost use Rattle.transfer.specs.Neighbors.{dependentsOf, neighbors, Connected};
 ghost use Rattle.solver.specs.Run.{atOf, outOf, Tells, settled, visitCharge, visited, run, Good, Went, Idle};
 
 // A charge and an offer for each block that a change concerns.
@@ -67,8 +67,8 @@ fn settle(
     requires { ⌜ Room y (length (now s)) × SetsRoom y (length (now t)) × (block < y .blocks) × Good y (scratch y (now s)) from × (budget .work ≤ limits .work) × (limits .work < 2 ^ 64 - 1) ⌝ }
     ensures { λ r. ⌜ (outOf (scratch y (now (s .exit))) (sets y (now (t .exit))) r ≡ settled d y limits block (atOf (scratch y (now (s .entry))) (sets y (now (t .entry))) from) budget) × Went y limits (budget .work) (outOf (scratch y (now (s .exit))) (sets y (now (t .exit))) r) ⌝ }
 {
-    let kept = transfer::kept(y, d, block);
-    let running = transfer::running(y, d);
+    let kept = compute::kept(y, d, block);
+    let running = compute::running(y, d);
     if memory::rows::same(t, y, kept, s, running) {
         return Turn::Done(from, budget);
     }
@@ -115,7 +115,7 @@ fn visit(
     let Charged::Ok(left) = c else {
         return Turn::Stop(c.budget());
     };
-    transfer::compute(s, t, y, d, block);
+    compute::compute(s, t, y, d, block);
     settle(s, t, y, rest, d, block, limits, left)
 }
 

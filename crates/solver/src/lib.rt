@@ -1,7 +1,4 @@
-// `propagate` of solver.rs with `incoming` and `live_out` of flow.rs, over the words of both buffers.
-pub mod direction;
+// The visits of `propagate` of solver.rs, over the words of both buffers.
 pub mod drain;
-pub mod neighbors;
 pub mod ring;
 pub mod seed;
-pub mod transfer;

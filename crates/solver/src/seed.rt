@@ -1,7 +1,7 @@
 // The beginning of `propagate`: who waits, and who is marked.
-use crate::direction::Direction;
 use memory::layout;
 use memory::layout::Layout;
+use transfer::direction::Direction;
 ghost use mathlib.Core.Path.{_≡_};
 ghost use Prim.Native.Nat.{_≤_, _<_};
 ghost use lib.ListN.{length};

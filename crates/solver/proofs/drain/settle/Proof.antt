@@ -6,7 +6,7 @@ use borrow.Author.Needs.{needs}
 use Rattle.memory.specs.Scratch.{scratch}
 use Rattle.memory.specs.Sets.{sets}
 use Rattle.solver.proofs.RunLaws.{settled-same, settled-new}
-use Rattle.solver.proofs.TransferLaws.{running-row, kept-row}
+use Rattle.transfer.proofs.TransferLaws.{running-row, kept-row}
 use Rattle.solver.proofs.drain.settle.Statement.{statement}
 use Rattle.solver.proofs.drain.settle.Tie as tie
 

@@ -9,7 +9,7 @@ use Rattle.budget.specs.declared.Charged.{Charged}
 use Rattle.memory.specs.Scratch.{scratch, Room}
 use Rattle.solver.specs.declared.ring.Turn.the-variants.{Stop}
 use Rattle.memory.proofs.ScratchLaws.{scratch-sized}
-use Rattle.solver.proofs.NeighborLaws.{walk-none, walk-edge}
+use Rattle.transfer.proofs.NeighborLaws.{walk-none, walk-edge}
 use Rattle.solver.proofs.RingLaws.{good-count}
 use Rattle.solver.proofs.RunLaws.{Telling, telling-none, telling-to, telling-more, telling-over, telling-all}
 use Rattle.solver.proofs.drain.tell.Statement.{statement}

@@ -1,0 +1,32 @@
+-- `transfer::neighbors::first` meets its contract: the first edge of each side. Assumes nothing.
+use mathlib.Core.Path.{refl}
+use native.Mathlib.Omega.{arith}
+use borrow.Author.Needs.{needs}
+use Rattle.memory.proofs.ScratchLaws.{place-blocks}
+use Rattle.transfer.proofs.neighbors.first.Statement.{statement}
+use Rattle.transfer.proofs.neighbors.first.Tie as tie
+
+enum-told : tie.Need-enum-told
+enum-told c = search needs
+
+mul-result : tie.Need-mul-result
+mul-result c = search needs
+
+enum-told-2 : tie.Need-enum-told-2
+enum-told-2 c = search needs
+
+get-requires : tie.Need-get-requires
+get-requires c κs =
+    let p = c .before .before .before .pre in
+    (search needs, place-blocks _ _ _ (omega arith) (omega arith) (p .1))
+
+returns : tie.Need-returns
+returns c =
+    rw (c .enum-told .given .1) refl
+
+returns-2 : tie.Need-returns-2
+returns-2 c =
+    rw (c .before .enum-told2 .given .1) (c .get .ensures)
+
+pub first-spec : {M : Type 1} → statement M
+first-spec = tie.close (tie.spec enum-told mul-result enum-told-2 get-requires returns returns-2)

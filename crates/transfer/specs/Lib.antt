@@ -1,0 +1,3 @@
+-- What a visit computes from a block's neighbors.
+pub mod Neighbors
+pub mod Transfer

@@ -1,0 +1,181 @@
+// What a visit computes.
+use crate::direction::Direction;
+use crate::direction::Side;
+use crate::neighbors;
+use memory::layout;
+use memory::layout::Layout;
+ghost use mathlib.Core.Path.{_≡_};
+ghost use Prim.Native.Nat.{_<_, _≤_};
+ghost use lib.ListN.{length, replicate};
+ghost use Rattle.bitset.specs.Sets.{ones};
+ghost use Rattle.memory.specs.Cells.{cell, storeCell};
+ghost use Rattle.memory.specs.Scratch.{scratch, Room};
+ghost use Rattle.memory.specs.Sets.{sets, SetsRoom};
+ghost use Rattle.transfer.specs.declared.direction.Direction.the-variants.{Initialization, Liveness};
+ghost use Rattle.transfer.specs.Neighbors.{readsOf, nextOf, neighborsFrom, Behind, Connected};
+ghost use Rattle.transfer.specs.Transfer.{runningRow, keptRow, entryOf, gatherOne, gatherAll, gathered, transferred, computed};
+
+// The cell of the running row.
+pub fn running(y: Layout, d: Direction) -> usize
+    requires { ⌜ y .blocks ≤ 65536 ⌝ }
+    ensures { λ r. ⌜ r ≡ runningRow d y ⌝ }
+{
+    match d {
+        Direction::Initialization => y.state(),
+        Direction::Liveness => y.live_state(),
+    }
+}
+
+// The cell of the row that is kept for a block.
+pub fn kept(y: Layout, d: Direction, block: usize) -> usize
+    requires { ⌜ (block < y .blocks) × (y .blocks ≤ 65536) ⌝ }
+    ensures { λ r. ⌜ r ≡ keptRow d block ⌝ }
+{
+    match d {
+        Direction::Initialization => y.initialized(block),
+        Direction::Liveness => y.live(block),
+    }
+}
+
+// The running row becomes what a block begins with.
+fn begin(s: &mut [u64], y: Layout, d: Direction, block: usize)
+    requires { ⌜ Room y (length (now s)) ⌝ }
+    ensures { λ _. ⌜ scratch y (now (s .exit)) ≡ storeCell (scratch y (now (s .entry))) (runningRow d y) (entryOf d y (scratch y (now (s .entry))) block) ⌝ }
+{
+    match d {
+        Direction::Initialization => begin_initialized(s, y, block),
+        Direction::Liveness => memory::rows::fill(s, y, y.live_state(), 0),
+    }
+}
+
+// The parameters at block 0, all slots at another.
+fn begin_initialized(s: &mut [u64], y: Layout, block: usize)
+    requires { ⌜ Room y (length (now s)) ⌝ }
+    ensures { λ _. ⌜ scratch y (now (s .exit)) ≡ storeCell (scratch y (now (s .entry))) (runningRow Initialization y) (entryOf Initialization y (scratch y (now (s .entry))) block) ⌝ }
+{
+    if block == 0 {
+        memory::rows::copy(s, y, y.state(), y.parameters());
+        return;
+    }
+    memory::rows::fill(s, y, y.state(), 18446744073709551615);
+}
+
+// The running row takes in what a neighbor keeps.
+fn gather_one(s: &mut [u64], t: &[u64], y: Layout, d: Direction, block: usize)
+    requires { ⌜ Room y (length (now s)) × SetsRoom y (length (now t)) × (block < y .blocks) ⌝ }
+    ensures { λ _. ⌜ scratch y (now (s .exit)) ≡ storeCell (scratch y (now (s .entry))) (runningRow d y) (gatherOne d (scratch y (now (s .entry))) (sets y (now (t .entry))) block (cell (scratch y (now (s .entry))) (runningRow d y))) ⌝ }
+{
+    match d {
+        Direction::Initialization => meet_one(s, t, y, block),
+        Direction::Liveness => memory::rows::join_from(s, y, y.live_state(), t, y.live(block)),
+    }
+}
+
+// It keeps what is initialized at the exit of a predecessor that is reachable.
+fn meet_one(s: &mut [u64], t: &[u64], y: Layout, block: usize)
+    requires { ⌜ Room y (length (now s)) × SetsRoom y (length (now t)) × (block < y .blocks) ⌝ }
+    ensures { λ _. ⌜ scratch y (now (s .exit)) ≡ storeCell (scratch y (now (s .entry))) (runningRow Initialization y) (gatherOne Initialization (scratch y (now (s .entry))) (sets y (now (t .entry))) block (cell (scratch y (now (s .entry))) (runningRow Initialization y))) ⌝ }
+{
+    if memory::scratch::get(s, y, layout::REACHABLE, block) != 0 {
+        memory::rows::meet_from(s, y, y.state(), t, y.initialized(block));
+    }
+}
+
+// The running row becomes what a block begins with and takes in what its first neighbor keeps.
+fn begin_with(s: &mut [u64], t: &[u64], y: Layout, d: Direction, block: usize, from: usize)
+    requires { ⌜ Room y (length (now s)) × SetsRoom y (length (now t)) × (from < y .blocks) ⌝ }
+    ensures { λ _. ⌜ scratch y (now (s .exit)) ≡ storeCell (scratch y (now (s .entry))) (runningRow d y) (gatherOne d (scratch y (now (s .entry))) (sets y (now (t .entry))) from (entryOf d y (scratch y (now (s .entry))) block)) ⌝ }
+{
+    match d {
+        Direction::Initialization => begin_met(s, t, y, block, from),
+        Direction::Liveness => memory::rows::take(s, y, y.live_state(), t, y.live(from)),
+    }
+}
+
+// What a predecessor keeps is met with the parameters at block 0, with all slots at another.
+fn begin_met(s: &mut [u64], t: &[u64], y: Layout, block: usize, from: usize)
+    requires { ⌜ Room y (length (now s)) × SetsRoom y (length (now t)) × (from < y .blocks) ⌝ }
+    ensures { λ _. ⌜ scratch y (now (s .exit)) ≡ storeCell (scratch y (now (s .entry))) (runningRow Initialization y) (gatherOne Initialization (scratch y (now (s .entry))) (sets y (now (t .entry))) from (entryOf Initialization y (scratch y (now (s .entry))) block)) ⌝ }
+{
+    if block != 0 {
+        begin_all(s, t, y, from);
+        return;
+    }
+    begin_initialized(s, y, block);
+    meet_one(s, t, y, from);
+}
+
+// All slots, met with what is initialized at the exit of a predecessor that is reachable.
+fn begin_all(s: &mut [u64], t: &[u64], y: Layout, block: usize)
+    requires { ⌜ Room y (length (now s)) × SetsRoom y (length (now t)) × (block < y .blocks) ⌝ }
+    ensures { λ _. ⌜ scratch y (now (s .exit)) ≡ storeCell (scratch y (now (s .entry))) (runningRow Initialization y) (gatherOne Initialization (scratch y (now (s .entry))) (sets y (now (t .entry))) block (replicate (y .words) ones)) ⌝ }
+{
+    if memory::scratch::get(s, y, layout::REACHABLE, block) == 0 {
+        memory::rows::fill(s, y, y.state(), 18446744073709551615);
+        return;
+    }
+    memory::rows::take(s, y, y.state(), t, y.initialized(block));
+}
+
+// It takes in what the neighbors at the n edges behind an edge keep.
+fn gather_rest(s: &mut [u64], t: &[u64], y: Layout, d: Direction, first: usize, n: usize)
+    requires { ⌜ Room y (length (now s)) × SetsRoom y (length (now t)) × Behind y (readsOf d) (scratch y (now s)) n first ⌝ }
+    ensures { λ _. ⌜ scratch y (now (s .exit)) ≡ storeCell (scratch y (now (s .entry))) (runningRow d y) (gatherAll d (scratch y (now (s .entry))) (sets y (now (t .entry))) (neighborsFrom (readsOf d) (scratch y (now (s .entry))) n (nextOf (readsOf d) (scratch y (now (s .entry))) first)) (cell (scratch y (now (s .entry))) (runningRow d y))) ⌝ }
+{
+    let side = d.reads();
+    let mut edge = first;
+    let mut k = 0;
+    while k < n {
+        edge = neighbors::next(s, y, side, edge) as usize;
+        let from = neighbors::end(s, y, side, edge) as usize;
+        gather_one(s, t, y, d, from);
+        k += 1;
+    }
+}
+
+// The running row becomes `incoming` or `live_out` of a block.
+pub fn gather(s: &mut [u64], t: &[u64], y: Layout, d: Direction, block: usize)
+    requires { ⌜ Room y (length (now s)) × SetsRoom y (length (now t)) × (block < y .blocks) × Connected y (scratch y (now s)) ⌝ }
+    ensures { λ _. ⌜ scratch y (now (s .exit)) ≡ storeCell (scratch y (now (s .entry))) (runningRow d y) (gathered d y (scratch y (now (s .entry))) (sets y (now (t .entry))) block) ⌝ }
+{
+    let side = d.reads();
+    let n = neighbors::count(s, y, side, block) as usize;
+    if n == 0 {
+        begin(s, y, d, block);
+        return;
+    }
+    let edge = neighbors::first(s, y, side, block) as usize;
+    let from = neighbors::end(s, y, side, edge) as usize;
+    begin_with(s, t, y, d, block, from);
+    gather_rest(s, t, y, d, edge, n - 1);
+}
+
+// The running row goes through the block.
+fn transfer(s: &mut [u64], y: Layout, d: Direction, block: usize)
+    requires { ⌜ Room y (length (now s)) × (block < y .blocks) ⌝ }
+    ensures { λ _. ⌜ scratch y (now (s .exit)) ≡ storeCell (scratch y (now (s .entry))) (runningRow d y) (transferred d (scratch y (now (s .entry))) block (cell (scratch y (now (s .entry))) (runningRow d y))) ⌝ }
+{
+    match d {
+        Direction::Initialization => memory::rows::join(s, y, y.state(), y.defines(block)),
+        Direction::Liveness => transfer_live(s, y, block),
+    }
+}
+
+// What the block defines goes, what it uses comes.
+fn transfer_live(s: &mut [u64], y: Layout, block: usize)
+    requires { ⌜ Room y (length (now s)) × (block < y .blocks) ⌝ }
+    ensures { λ _. ⌜ scratch y (now (s .exit)) ≡ storeCell (scratch y (now (s .entry))) (runningRow Liveness y) (transferred Liveness (scratch y (now (s .entry))) block (cell (scratch y (now (s .entry))) (runningRow Liveness y))) ⌝ }
+{
+    let defines = y.defines(block);
+    let uses = y.uses(block);
+    memory::rows::replace(s, y, y.live_state(), defines, uses);
+}
+
+// The running row becomes the new set of a block.
+pub fn compute(s: &mut [u64], t: &[u64], y: Layout, d: Direction, block: usize)
+    requires { ⌜ Room y (length (now s)) × SetsRoom y (length (now t)) × (block < y .blocks) × Connected y (scratch y (now s)) ⌝ }
+    ensures { λ _. ⌜ scratch y (now (s .exit)) ≡ storeCell (scratch y (now (s .entry))) (runningRow d y) (computed d y (scratch y (now (s .entry))) (sets y (now (t .entry))) block) ⌝ }
+{
+    gather(s, t, y, d, block);
+    transfer(s, y, d, block);
+}
