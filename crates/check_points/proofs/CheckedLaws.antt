@@ -28,13 +28,14 @@ use Rattle.transfer.specs.declared.direction.Direction.the-variants.{Initializa
 use Rattle.transfer.specs.Transfer.{runningRow, gathered}
 use Rattle.answer.specs.Words.{Means}
 use Rattle.verdict.specs.Points.{Checking, on, andThen, Point, readsRun, awaitsRun, blockRun, awaitPoints}
-use Rattle.points.specs.declared.awaits.Points.{Points}
-use Rattle.points.specs.declared.awaits.Points.the-variants.{Passed, Refused}
-use Rattle.points.specs.declared.reads.Reads.{Reads}
-use Rattle.points.specs.declared.reads.Reads.the-variants.{Filled, Unfilled, Over}
-use Rattle.points.proofs.reads.Reads.{the-type}
-use Rattle.points.specs.Rows.{Coded, awaitsAmong, readsOf, pointsOf, Entries, Used, ReadsChecked, AwaitsChecked, ChargedBack}
-use Rattle.points.proofs.ChargeLaws.{none-run}
+use Rattle.awaits.specs.declared.Points.{Points}
+use Rattle.awaits.specs.declared.Points.the-variants.{Passed, Refused}
+use Rattle.reads.specs.declared.Reads.{Reads}
+use Rattle.reads.specs.declared.Reads.the-variants.{Filled, Unfilled, Over}
+use Rattle.reads.proofs.Reads.{the-type}
+use Rattle.reads.specs.Reads.{Coded, awaitsAmong, readsOf, Used, ReadsChecked}
+use Rattle.awaits.specs.Awaits.{pointsOf, Entries, AwaitsChecked, ChargedBack}
+use Rattle.awaits.proofs.ChargeLaws.{none-run}
 use Rattle.check_points.specs.CheckPoints.{codeOf, Solved, factsOf, Facing, refusedBy, raisedTo, Counted, FoundChecked, BlockChecked}
 use Rattle.check_points.proofs.SolvedLaws.{RunningOnly, running-then, word-kept, solved-kept, reads-others, gather-others}
 use Rattle.check_points.proofs.SolvedLaws.{incoming-means, live-out-means}

@@ -30,9 +30,9 @@ use Rattle.fixed_points.specs.FixedPoints.{Sets}
 use Rattle.fixed_points.proofs.CodeGraph.{connected}
 use Rattle.fixed_points.proofs.Gathered.{incoming-bits, live-out-bits}
 use Rattle.answer.specs.Words.{Means}
-use Rattle.points.specs.declared.reads.Reads.{Reads}
-use Rattle.points.specs.Rows.{Coded, ReadsChecked}
-use Rattle.points.proofs.ReadLaws as read
+use Rattle.reads.specs.declared.Reads.{Reads}
+use Rattle.reads.specs.Reads.{Coded, ReadsChecked}
+use Rattle.reads.proofs.ReadLaws as read
 use Rattle.check_points.specs.CheckPoints.{codeOf, Solved}
 
 -- ---- what stays

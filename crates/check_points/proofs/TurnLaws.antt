@@ -16,10 +16,10 @@ use Rattle.sheet.specs.declared.script.Script.{Script}
 use Rattle.sheet.specs.Decode.{partsOf}
 use Rattle.script.specs.Script.{parameterIn, hostIn}
 use Rattle.verdict.specs.Points.{Checking, andThen, Point, blockRun, blocksRun, pointsRun, blockPoints, points}
-use Rattle.points.specs.declared.awaits.Points.{Points}
-use Rattle.points.specs.declared.awaits.Points.the-variants.{Passed, Refused}
-use Rattle.points.specs.Rows.{pointsOf, Entries}
-use Rattle.points.proofs.BackwardLaws.{entries-kept}
+use Rattle.awaits.specs.declared.Points.{Points}
+use Rattle.awaits.specs.declared.Points.the-variants.{Passed, Refused}
+use Rattle.awaits.specs.Awaits.{pointsOf, Entries}
+use Rattle.awaits.proofs.BackwardLaws.{entries-kept}
 use Rattle.check_points.specs.CheckPoints.{codeOf, Solved, factsOf, Facing, BlockChecked, PointsChecked}
 use Rattle.check_points.proofs.SolvedLaws.{RunningOnly, running-then, solved-kept, solved-sets}
 use Rattle.check_points.proofs.SpanLaws.{blocks-append, points-few}

@@ -17,12 +17,13 @@ use Rattle.script.specs.Script.{flowCode, parameterIn, hostIn}
 use Rattle.edges.specs.Flow.{Flows}
 use Rattle.fixed_points.specs.FixedPoints.{Scripted, Sets}
 use Rattle.verdict.specs.Points.{Point, awaitsRun, blockRun, pointsRun, awaitPoints, points}
-use Rattle.points.specs.declared.awaits.Points.{Points}
-use Rattle.points.specs.declared.awaits.Points.the-variants.{Passed, Refused}
-use Rattle.points.specs.declared.reads.Reads.{Reads}
-use Rattle.points.specs.declared.reads.Reads.the-variants.{Filled, Unfilled, Over}
+use Rattle.awaits.specs.declared.Points.{Points}
+use Rattle.awaits.specs.declared.Points.the-variants.{Passed, Refused}
+use Rattle.reads.specs.declared.Reads.{Reads}
+use Rattle.reads.specs.declared.Reads.the-variants.{Filled, Unfilled, Over}
 use Rattle.format.specs.declared.refusal.Refusal.the-variants.{UnfilledSlot, WorkLimit}
-use Rattle.points.specs.Rows.{Coded, awaitsAmong, pointsOf, Entries}
+use Rattle.reads.specs.Reads.{Coded, awaitsAmong}
+use Rattle.awaits.specs.Awaits.{pointsOf, Entries}
 
 -- the code of a sheet, its parameters and its host slots
 abbrev pub codeOf : List ℕ → List Instruction

@@ -1,13 +1,11 @@
 // `check_points` of flow.rs over the words of both buffers: the reachable blocks by start, at each the reads, then the awaits.
+use awaits::Points;
 use budget::FlowBudget;
 use budget::Limits;
 use format::refusal::Refusal;
 use memory::layout;
 use memory::layout::Layout;
-use points::awaits;
-use points::awaits::Points;
-use points::reads;
-use points::reads::Reads;
+use reads::Reads;
 use sheet::script::Script;
 use transfer::compute;
 use transfer::direction::Direction;

@@ -19,7 +19,7 @@ use Rattle.memory.specs.Sets.{setsWidths, sets, SetsRoom}
 use Rattle.memory.proofs.CellLaws.{start, start-past, start-equal}
 use Rattle.memory.proofs.SetsLaws.{sets-length, sets-row-words, await-words}
 use Rattle.fixed_points.specs.FixedPoints.{Sets}
-use Rattle.points.specs.Rows.{Entry, Entries}
+use Rattle.awaits.specs.Awaits.{Entry, Entries}
 use Rattle.verdict.specs.Points.{Point}
 use Rattle.answer.specs.Words.{wordsOf}
 use Rattle.answer.proofs.WordLaws.{means-words}

@@ -28,10 +28,10 @@ use Rattle.fixed_points.specs.FixedPoints.{Scripted, fixedPointsCharges, Fixed}
 use Rattle.fixed_points.specs.Stages.{Flowing}
 use Rattle.fixed_points.proofs.Gathered.{fixed-still}
 use Rattle.verdict.specs.Points.{points}
-use Rattle.points.specs.declared.awaits.Points.{Points}
-use Rattle.points.specs.declared.awaits.Points.the-variants.{Passed}
-use Rattle.points.specs.declared.awaits.Points.the-variants as pointing
-use Rattle.points.specs.Rows.{pointsOf}
+use Rattle.awaits.specs.declared.Points.{Points}
+use Rattle.awaits.specs.declared.Points.the-variants.{Passed}
+use Rattle.awaits.specs.declared.Points.the-variants as pointing
+use Rattle.awaits.specs.Awaits.{pointsOf}
 use Rattle.check_points.specs.CheckPoints.{Solved, PointsChecked}
 use Rattle.check_points.proofs.SolvedLaws.{still-running, sets-kept}
 use Rattle.outcome.specs.Outcome.{accepted, afterPoints, afterRounds}

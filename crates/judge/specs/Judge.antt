@@ -27,10 +27,10 @@ use Rattle.graph.specs.Graph.{Holding}
 use Rattle.answer.specs.Words.{Means}
 use Rattle.verdict.specs.Points.{points}
 use Rattle.outcome.specs.Outcome.{lengthsWith, Outcome, accepted, refused, afterRounds, judged}
-use Rattle.points.specs.declared.awaits.Points.{Points}
-use Rattle.points.specs.declared.awaits.Points.the-variants.{Passed}
-use Rattle.points.specs.declared.awaits.Points.the-variants as pointing
-use Rattle.points.specs.Rows.{Entries}
+use Rattle.awaits.specs.declared.Points.{Points}
+use Rattle.awaits.specs.declared.Points.the-variants.{Passed}
+use Rattle.awaits.specs.declared.Points.the-variants as pointing
+use Rattle.awaits.specs.Awaits.{Entries}
 use Rattle.judge.specs.declared.Judged.{Judged}
 use Rattle.judge.specs.declared.Judged.the-variants.{Accepted, Refused}
 

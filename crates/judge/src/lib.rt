@@ -1,11 +1,11 @@
 // `verify` of flow.rs on a sheet that passed the checks, stage by stage.
+use awaits::Points;
 use budget::Charged;
 use budget::FlowBudget;
 use budget::Limits;
 use format::refusal::Refusal;
 use instructions::sets;
 use memory::layout::Layout;
-use points::awaits::Points;
 use rooms::Staged;
 use sheet::script::Script;
 ghost use mathlib.Core.Path.{_≡_};

@@ -1,5 +1,4 @@
 // Lent words as cells: only this crate knows where a cell lies. Contracts speak of `scratch y words` and `sets y words`, the cells of the two
 // buffers under a layout.
 pub mod layout;
-pub mod rows;
 pub mod scratch;

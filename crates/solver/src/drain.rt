@@ -69,10 +69,10 @@ fn settle(
 {
     let kept = compute::kept(y, d, block);
     let running = compute::running(y, d);
-    if memory::rows::same(t, y, kept, s, running) {
+    if rows::same(t, y, kept, s, running) {
         return Turn::Done(from, budget);
     }
-    memory::rows::store(t, y, kept, s, running);
+    rows::store(t, y, kept, s, running);
     tell(s, y, from, d, block, limits, budget)
 }
 

@@ -44,7 +44,7 @@ fn begin(s: &mut [u64], y: Layout, d: Direction, block: usize)
 {
     match d {
         Direction::Initialization => begin_initialized(s, y, block),
-        Direction::Liveness => memory::rows::fill(s, y, y.live_state(), 0),
+        Direction::Liveness => rows::fill(s, y, y.live_state(), 0),
     }
 }
 
@@ -54,10 +54,10 @@ fn begin_initialized(s: &mut [u64], y: Layout, block: usize)
     ensures { λ _. ⌜ scratch y (now (s .exit)) ≡ storeCell (scratch y (now (s .entry))) (runningRow Initialization y) (entryOf Initialization y (scratch y (now (s .entry))) block) ⌝ }
 {
     if block == 0 {
-        memory::rows::copy(s, y, y.state(), y.parameters());
+        rows::copy(s, y, y.state(), y.parameters());
         return;
     }
-    memory::rows::fill(s, y, y.state(), 18446744073709551615);
+    rows::fill(s, y, y.state(), 18446744073709551615);
 }
 
 // The running row takes in what a neighbor keeps.
@@ -67,7 +67,7 @@ fn gather_one(s: &mut [u64], t: &[u64], y: Layout, d: Direction, block: usize)
 {
     match d {
         Direction::Initialization => meet_one(s, t, y, block),
-        Direction::Liveness => memory::rows::join_from(s, y, y.live_state(), t, y.live(block)),
+        Direction::Liveness => rows::join_from(s, y, y.live_state(), t, y.live(block)),
     }
 }
 
@@ -77,7 +77,7 @@ fn meet_one(s: &mut [u64], t: &[u64], y: Layout, block: usize)
     ensures { λ _. ⌜ scratch y (now (s .exit)) ≡ storeCell (scratch y (now (s .entry))) (runningRow Initialization y) (gatherOne Initialization (scratch y (now (s .entry))) (sets y (now (t .entry))) block (cell (scratch y (now (s .entry))) (runningRow Initialization y))) ⌝ }
 {
     if memory::scratch::get(s, y, layout::REACHABLE, block) != 0 {
-        memory::rows::meet_from(s, y, y.state(), t, y.initialized(block));
+        rows::meet_from(s, y, y.state(), t, y.initialized(block));
     }
 }
 
@@ -88,7 +88,7 @@ fn begin_with(s: &mut [u64], t: &[u64], y: Layout, d: Direction, block: usize, f
 {
     match d {
         Direction::Initialization => begin_met(s, t, y, block, from),
-        Direction::Liveness => memory::rows::take(s, y, y.live_state(), t, y.live(from)),
+        Direction::Liveness => rows::take(s, y, y.live_state(), t, y.live(from)),
     }
 }
 
@@ -111,10 +111,10 @@ fn begin_all(s: &mut [u64], t: &[u64], y: Layout, block: usize)
     ensures { λ _. ⌜ scratch y (now (s .exit)) ≡ storeCell (scratch y (now (s .entry))) (runningRow Initialization y) (gatherOne Initialization (scratch y (now (s .entry))) (sets y (now (t .entry))) block (replicate (y .words) ones)) ⌝ }
 {
     if memory::scratch::get(s, y, layout::REACHABLE, block) == 0 {
-        memory::rows::fill(s, y, y.state(), 18446744073709551615);
+        rows::fill(s, y, y.state(), 18446744073709551615);
         return;
     }
-    memory::rows::take(s, y, y.state(), t, y.initialized(block));
+    rows::take(s, y, y.state(), t, y.initialized(block));
 }
 
 // It takes in what the neighbors at the n edges behind an edge keep.
@@ -156,7 +156,7 @@ fn transfer(s: &mut [u64], y: Layout, d: Direction, block: usize)
     ensures { λ _. ⌜ scratch y (now (s .exit)) ≡ storeCell (scratch y (now (s .entry))) (runningRow d y) (transferred d (scratch y (now (s .entry))) block (cell (scratch y (now (s .entry))) (runningRow d y))) ⌝ }
 {
     match d {
-        Direction::Initialization => memory::rows::join(s, y, y.state(), y.defines(block)),
+        Direction::Initialization => rows::join(s, y, y.state(), y.defines(block)),
         Direction::Liveness => transfer_live(s, y, block),
     }
 }
@@ -168,7 +168,7 @@ fn transfer_live(s: &mut [u64], y: Layout, block: usize)
 {
     let defines = y.defines(block);
     let uses = y.uses(block);
-    memory::rows::replace(s, y, y.live_state(), defines, uses);
+    rows::replace(s, y, y.live_state(), defines, uses);
 }
 
 // The running row becomes the new set of a block.

@@ -1,0 +1,2 @@
+-- The awaits of one block.
+pub mod Awaits

@@ -1,0 +1,2 @@
+-- The reads of one block.
+pub mod Reads
