@@ -9,7 +9,7 @@ use lib.Dec.{ltb}
 use lib.ListN.{length}
 use Rattle.operands.specs.Choice.{pick}
 use Rattle.format.specs.declared.head.Head.the-variants.{Record, Short}
-use Rattle.format.specs.Heads.{u16At, kindAt, endAt, short, headAt}
+use Rattle.format.specs.Heads.{u16At, kindAt, endAt, short, headAt, Inside}
 use Rattle.format.proofs.Or.{or-none}
 
 -- one for each way through `head_at`
@@ -47,14 +47,6 @@ lies s at e =
     record { ordered = omega (arith, ltb-false (u16At s at) 2 (b .0)); within = ltb-false _ _ (b .1) }
 
 -- what a head that was found says
-pub record Inside (s : List ℕ) (at kind body end : ℕ) : Type 0 where
-  pub whole : short s at ≡ false
-  pub is-kind : kind ≡ kindAt s at
-  pub is-body : body ≡ at + 4
-  pub is-end : end ≡ endAt s at
-  pub ordered : body ≤ end
-  pub within : end ≤ length s
-
 pub inside : (s : List ℕ) (at kind body end : ℕ) → Record kind body end ≡ headAt s at → Inside s at kind body end
 unfolding headAt
 inside s at kind body end e = go (short s at) refl e

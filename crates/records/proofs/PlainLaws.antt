@@ -9,9 +9,9 @@ use lib.Dec.{eqb, leb}
 use lib.ListN.{length, getD}
 use Rattle.operands.specs.Choice.{pick}
 use Rattle.format.specs.declared.types.Typed.the-variants.{Got}
-use Rattle.format.specs.Heads.{u16At, kindAt, endAt}
+use Rattle.format.specs.Heads.{u16At, kindAt, endAt, Inside}
 use Rattle.format.specs.Types.{wholeType, typedOf}
-use Rattle.format.proofs.HeadLaws.{Inside, not-short}
+use Rattle.format.proofs.HeadLaws.{not-short}
 use Rattle.format.proofs.TypeLaws.{plain-type, whole-absent, whole-deep}
 use Rattle.records.specs.declared.record.Step.the-variants.{Next}
 use Rattle.records.specs.Records.{badSlot, topPhysical, plainSlot, slotFault, stepOf}
@@ -132,4 +132,4 @@ module _ (s : List ℕ) (top at : ℕ) (p : Plain s top at) where
 
   -- it passes
   pub plain-due : top ≤ 3 → Next (at + 6) 258 ≡ stepOf (slotFault s at) (endAt s at) (kindAt s at)
-  plain-due h = slot-due s at 258 (at + 4) (at + 6) plain-inside refl (plain-good h)
+  plain-due h = slot-due plain-inside refl (plain-good h)

@@ -7,17 +7,17 @@ use native.Mathlib.Omega.{arith}
 use borrow.Author.Tests.{le-leb, lt-leb, le-ltb, lt-ltb, eq-eqb, ne-eqb}
 use lib.Dec.{eqb, leb}
 use lib.ListN.{getD}
+use Rattle.operands.specs.Choice.{pick}
 use Rattle.operands.specs.Patterns.{fits}
 use Rattle.operands.specs.Bytes.{numbersAt}
 use Rattle.format.specs.declared.refusal.Refusal.the-variants.{ShortSheet, WrongKind, BadBody, NoSuchSlot, NoSuchTarget}
 use Rattle.format.specs.declared.fields.Faults.{Faults}
 use Rattle.records.specs.declared.record.Step.the-variants.{Next, Stop}
 use Rattle.format.specs.declared.types.Typed.the-variants.{Got, BadType}
-use Rattle.format.specs.Heads.{short, kindAt, endAt, bodyLength, fieldsAt}
+use Rattle.format.specs.Heads.{short, kindAt, endAt, bodyLength, fieldsAt, Inside}
 use Rattle.format.specs.Types.{Ty, Read, got, unfit, endsWith, typedOf, wholeType}
 use Rattle.format.specs.Fields.{badModule, noSlot, noTarget, anyField, anyAbove, FaultsIn}
-use Rattle.records.specs.Records.{functionFault, parametersFault, badSlot, slotFault, badInstruction, instructionFault, fieldsFault, stepOf}
-use Rattle.format.proofs.HeadLaws.{Inside}
+use Rattle.records.specs.Records.{functionFault, parametersFault, badSlot, slotFault, badInstruction, instructionFault, dueFault, fieldsFault, stepOf}
 
 -- the body of a slot record
 module _ (s : List ℕ) (body end : ℕ) where
@@ -61,26 +61,21 @@ module _ (r : Faults) (end kind : ℕ) where
     pub fields-due : r .targets ≡ false → Next end kind ≡ stepOf (fieldsFault (r .modules) (r .slots) (r .targets)) end kind
     fields-due c = rw (a, b, c)
 
--- a sheet that ends before the record does
-module _ (s : List ℕ) (at end kind : ℕ) (e : short s at ≡ true) where
-  pub function-short : Stop ShortSheet ≡ stepOf (functionFault s at) end kind
-  unfolding functionFault
-  function-short = rw e
-
-  pub parameters-short : (slots : ℕ) → Stop ShortSheet ≡ stepOf (parametersFault s slots at) end kind
-  unfolding parametersFault
-  parameters-short slots = rw e
-
-  pub slot-short : Stop ShortSheet ≡ stepOf (slotFault s at) end kind
-  unfolding slotFault
-  slot-short = rw e
-
-  pub instruction-short : (slots n : ℕ) → Stop ShortSheet ≡ stepOf (instructionFault s slots n at) end kind
-  unfolding instructionFault
-  instruction-short slots n = rw e
+-- a sheet that ends before the record does, whichever is due
+pub due-short : (s : List ℕ) (kind slots n at : ℕ) → short s at ≡ true
+    → Stop ShortSheet ≡ stepOf (dueFault s kind slots n at) (endAt s at) (kindAt s at)
+unfolding functionFault parametersFault slotFault instructionFault
+due-short s kind slots n at e = go (eqb kind 256) (eqb kind 257) (eqb kind 258)
+  where
+    go : (f p l : Bool) → Stop ShortSheet
+        ≡ stepOf (pick f (functionFault s at) (pick p (parametersFault s slots at) (pick l (slotFault s at) (instructionFault s slots n at)))) (endAt s at) (kindAt s at)
+    go true p l = rw e
+    go false true l = rw e
+    go false false true = rw e
+    go false false false = rw e
 
 -- a record with a head
-module _ (s : List ℕ) (at kind body end : ℕ) (i : Inside s at kind body end) where
+module _ {s : List ℕ} {at kind body end : ℕ} (i : Inside s at kind body end) where
   same-length : end - body ≡ bodyLength s at
   same-length = let p = i .is-body in let q = i .is-end in cc
 

@@ -11,7 +11,7 @@ use operands::pattern::Pattern;
 ghost use mathlib.Core.Path.{_≡_};
 ghost use Prim.Native.Nat.{_+_, _≤_, min};
 ghost use lib.ListN.{length};
-ghost use Rattle.format.specs.Heads.{kindAt, endAt};
+ghost use Rattle.format.specs.Heads.{kindAt, endAt, Inside};
 ghost use Rattle.records.specs.Records.{stepOf, refusalIn, badSlot, topPhysical, plainSlot, plainRun, fieldsFault, functionFault, parametersFault, slotFault, instructionFault, dueFault};
 
 pub const FUNCTION: usize = 256;
@@ -41,13 +41,11 @@ impl Step {
     }
 }
 
-// The function record at an offset, its numbers not yet judged.
-fn function_record(s: &[u8], at: usize) -> Step
+// The function record at an offset, its head read, its numbers not yet judged.
+fn function_record(s: &[u8], at: usize, kind: usize, body: usize, end: usize) -> Step
+    requires { ⌜ Inside (now s) at kind body end ⌝ }
     ensures { λ r. ⌜ r ≡ stepOf (functionFault (now (s .entry)) at) (endAt (now (s .entry)) at) (kindAt (now (s .entry)) at) ⌝ }
 {
-    let Head::Record(kind, body, end) = head::head_at(s, at) else {
-        return Step::Stop(Refusal::ShortSheet);
-    };
     if kind != FUNCTION {
         return Step::Stop(Refusal::WrongKind);
     }
@@ -57,13 +55,11 @@ fn function_record(s: &[u8], at: usize) -> Step
     Step::Next(end, kind)
 }
 
-// The parameter record at an offset.
-fn parameter_record(s: &[u8], slots: usize, at: usize) -> Step
+// The parameter record at an offset, its head read.
+fn parameter_record(s: &[u8], slots: usize, at: usize, kind: usize, body: usize, end: usize) -> Step
+    requires { ⌜ Inside (now s) at kind body end ⌝ }
     ensures { λ r. ⌜ r ≡ stepOf (parametersFault (now (s .entry)) slots at) (endAt (now (s .entry)) at) (kindAt (now (s .entry)) at) ⌝ }
 {
-    let Head::Record(kind, body, end) = head::head_at(s, at) else {
-        return Step::Stop(Refusal::ShortSheet);
-    };
     if kind != PARAMETERS {
         return Step::Stop(Refusal::WrongKind);
     }
@@ -94,13 +90,11 @@ fn bad_slot(s: &[u8], body: usize, end: usize) -> bool
     next != end
 }
 
-// The slot record at an offset.
-fn slot_record(s: &[u8], at: usize) -> Step
+// The slot record at an offset, its head read.
+fn slot_record(s: &[u8], at: usize, kind: usize, body: usize, end: usize) -> Step
+    requires { ⌜ Inside (now s) at kind body end ⌝ }
     ensures { λ r. ⌜ r ≡ stepOf (slotFault (now (s .entry)) at) (endAt (now (s .entry)) at) (kindAt (now (s .entry)) at) ⌝ }
 {
-    let Head::Record(kind, body, end) = head::head_at(s, at) else {
-        return Step::Stop(Refusal::ShortSheet);
-    };
     if kind != SLOT {
         return Step::Stop(Refusal::WrongKind);
     }
@@ -188,13 +182,19 @@ fn fields_step(f: Faults, end: usize, kind: usize) -> Step
     Step::Next(end, kind)
 }
 
-// The instruction record at an offset: kinds 1 to 41, each by its pattern.
-fn instruction_record(s: &[u8], slots: usize, count: usize, at: usize) -> Step
+// The instruction record at an offset, its head read: kinds 1 to 41, each by its pattern.
+fn instruction_record(
+    s: &[u8],
+    slots: usize,
+    count: usize,
+    at: usize,
+    kind: usize,
+    body: usize,
+    end: usize,
+) -> Step
+    requires { ⌜ Inside (now s) at kind body end ⌝ }
     ensures { λ r. ⌜ r ≡ stepOf (instructionFault (now (s .entry)) slots count at) (endAt (now (s .entry)) at) (kindAt (now (s .entry)) at) ⌝ }
 {
-    let Head::Record(kind, body, end) = head::head_at(s, at) else {
-        return Step::Stop(Refusal::ShortSheet);
-    };
     if kind < 1 {
         return Step::Stop(Refusal::WrongKind);
     }
@@ -216,18 +216,38 @@ fn instruction_record(s: &[u8], slots: usize, count: usize, at: usize) -> Step
     Step::Stop(Refusal::BadBody)
 }
 
-// The record at an offset, by the kind that is due there. The slot count and the instruction count matter where a record names slots or targets.
-pub fn due_record(s: &[u8], kind: usize, slots: usize, count: usize, at: usize) -> Step
-    ensures { λ r. ⌜ r ≡ stepOf (dueFault (now (s .entry)) kind slots count at) (endAt (now (s .entry)) at) (kindAt (now (s .entry)) at) ⌝ }
+// The record at an offset, its head read, by the kind that is due there.
+fn headed_record(
+    s: &[u8],
+    due: usize,
+    slots: usize,
+    count: usize,
+    at: usize,
+    kind: usize,
+    body: usize,
+    end: usize,
+) -> Step
+    requires { ⌜ Inside (now s) at kind body end ⌝ }
+    ensures { λ r. ⌜ r ≡ stepOf (dueFault (now (s .entry)) due slots count at) (endAt (now (s .entry)) at) (kindAt (now (s .entry)) at) ⌝ }
 {
-    if kind == FUNCTION {
-        return function_record(s, at);
+    if due == FUNCTION {
+        return function_record(s, at, kind, body, end);
     }
-    if kind == PARAMETERS {
-        return parameter_record(s, slots, at);
+    if due == PARAMETERS {
+        return parameter_record(s, slots, at, kind, body, end);
     }
-    if kind == SLOT {
-        return slot_record(s, at);
+    if due == SLOT {
+        return slot_record(s, at, kind, body, end);
     }
-    instruction_record(s, slots, count, at)
+    instruction_record(s, slots, count, at, kind, body, end)
+}
+
+// The record at an offset, by the kind that is due there. The slot count and the instruction count matter where a record names slots or targets.
+pub fn due_record(s: &[u8], due: usize, slots: usize, count: usize, at: usize) -> Step
+    ensures { λ r. ⌜ r ≡ stepOf (dueFault (now (s .entry)) due slots count at) (endAt (now (s .entry)) at) (kindAt (now (s .entry)) at) ⌝ }
+{
+    let Head::Record(kind, body, end) = head::head_at(s, at) else {
+        return Step::Stop(Refusal::ShortSheet);
+    };
+    headed_record(s, due, slots, count, at, kind, body, end)
 }

@@ -1,70 +1,25 @@
 -- `records::record::function_record` meets its contract. Assumes nothing.
-use mathlib.Core.Path.{sym, _∙_}
 use native.Mathlib.Omega.{arith}
-use denote.Ref.{now}
-use borrow.Author.Needs.{needs}
-use Rattle.format.specs.Heads.{kindAt, endAt}
-use Rattle.format.proofs.HeadLaws.{inside, found-short}
-use Rattle.records.proofs.RecordLaws.{function-short, function-kind, function-body, function-due}
+use Rattle.records.proofs.RecordLaws.{function-kind, function-body, function-due}
 use Rattle.records.proofs.record.function_record.Statement.{statement}
 use Rattle.records.proofs.record.function_record.Tie as tie
 
-head-at-requires : tie.Need-head-at-requires
-head-at-requires c κs = search needs
-
-enum-known-kind : tie.Need-enum-known-kind
-enum-known-kind c = search needs
-
-enum-told : tie.Need-enum-told
-enum-told c = search needs
-
 returns : tie.Need-returns
 returns c =
-    let a = c .before .before .before .before .args in
-    function-short (now (a .s)) (a .at) (endAt (now (a .s)) (a .at)) (kindAt (now (a .s)) (a .at))
-    (found-short (now (a .s)) (a .at) (sym (c .enum-told .given .1) ∙ c .before .before .head-at .ensures))
-
-returns-2 : tie.Need-returns-2
-returns-2 c =
-    let a = c .before .before .before .before .before .before .args in
-    let k = c .before .before .kind .given .0 in
-    let i = inside (now (a .s)) (a .at) (k .0) (k .1 .0) (k .1 .1 .0)
-    (sym (c .before .before .kind .given .1) ∙ c .before .before .before .before .head-at .ensures) in
-    function-kind (now (a .s)) (a .at) (k .0) (k .1 .0) (k .1 .1 .0) i (c .if1 .taken)
+    function-kind (c .before .pre) (c .if1 .taken)
 
 sub-if2 : tie.Need-sub-if2
 sub-if2 c =
-    let a = c .before .before .before .before .before .before .args in
-    let k = c .before .before .kind .given .0 in
-    let i = inside (now (a .s)) (a .at) (k .0) (k .1 .0) (k .1 .1 .0)
-    (sym (c .before .before .kind .given .1) ∙ c .before .before .before .before .head-at .ensures) in
+    let i = c .before .pre in
     omega (arith, i .ordered)
+
+returns-2 : tie.Need-returns-2
+returns-2 c =
+    function-body (c .before .before .pre) (c .before .if1 .left) (c .if2 .taken)
 
 returns-3 : tie.Need-returns-3
 returns-3 c =
-    let a = c .before .before .before .before .before .before .before .args in
-    let k = c .before .before .before .kind .given .0 in
-    let i = inside (now (a .s)) (a .at) (k .0) (k .1 .0) (k .1 .1 .0)
-    (sym (c .before .before .before .kind .given .1) ∙ c .before .before .before .before .before .head-at .ensures) in
-    function-body (now (a .s)) (a .at) (k .0) (k .1 .0) (k .1 .1 .0) i (c .before .if1 .left) (c .if2 .taken)
-
-returns-4 : tie.Need-returns-4
-returns-4 c =
-    let a = c .before .before .before .before .before .before .before .args in
-    let k = c .before .before .before .kind .given .0 in
-    let i = inside (now (a .s)) (a .at) (k .0) (k .1 .0) (k .1 .1 .0)
-    (sym (c .before .before .before .kind .given .1) ∙ c .before .before .before .before .before .head-at .ensures) in
-    function-due (now (a .s)) (a .at) (k .0) (k .1 .0) (k .1 .1 .0) i (c .before .if1 .left) (c .if2 .left)
+    function-due (c .before .before .pre) (c .before .if1 .left) (c .if2 .left)
 
 pub function-record-spec : {M : Type 1} → statement M
-function-record-spec =
-    tie.close
-    (tie.spec
-    head-at-requires
-    enum-known-kind
-    enum-told
-    returns
-    returns-2
-    sub-if2
-    returns-3
-    returns-4)
+function-record-spec = tie.close (tie.spec returns sub-if2 returns-2 returns-3)
