@@ -12,6 +12,7 @@ use script::Script;
 use walk::Code;
 use walk::Slots;
 ghost use mathlib.Core.Path.{_≡_};
+ghost use Rattle.reader.specs.Steps.{dueStep};
 ghost use Rattle.sheet.specs.Checks.{Checks};
 ghost use Rattle.sheet.specs.Stages.{atEnd, atCode, atSlots, atParameters, atSizes};
 
@@ -78,11 +79,19 @@ fn check_slots(s: &[u8], script: Script) -> Checked
     )
 }
 
+// The parameter record. It and the function record are read in functions of their own, so that the compiler leaves no call of the reader in the
+// loop over the instructions (docs/DECISIONS.md).
+fn parameter_record(s: &[u8], slots: usize, count: usize, at: usize) -> Step
+    ensures { λ r. ⌜ r ≡ dueStep (now (s .entry)) 257 slots count at ⌝ }
+{
+    reader::due_at(s, record::PARAMETERS, slots, count, at)
+}
+
 // From the parameter record on.
 fn check_parameters(s: &[u8], id: u32, slots: usize, count: usize, at: usize) -> Checked
     ensures { λ r. ⌜ r ≡ atParameters (now (s .entry)) id slots count at ⌝ }
 {
-    let step = reader::due_at(s, record::PARAMETERS, slots, count, at);
+    let step = parameter_record(s, slots, count, at);
     let Step::Next(next, _) = step else {
         return Checked::Refused(step.refusal(), id);
     };
@@ -118,11 +127,18 @@ fn check_sizes(s: &[u8], id: u32, slots: usize, count: usize, at: usize) -> Chec
     check_parameters(s, id, slots, count, at)
 }
 
+// The function record, which is the first.
+fn function_record(s: &[u8]) -> Step
+    ensures { λ r. ⌜ r ≡ dueStep (now (s .entry)) 256 0 0 0 ⌝ }
+{
+    reader::due_at(s, record::FUNCTION, 0, 0, 0)
+}
+
 // The checks 1 to 9. The function's id is 0 until the function record has passed 1 to 3.
 pub fn check(s: &[u8]) -> Checked
     ensures { λ r. ⌜ Checks (now (s .entry)) r ⌝ }
 {
-    let step = reader::due_at(s, record::FUNCTION, 0, 0, 0);
+    let step = function_record(s);
     let Step::Next(next, _) = step else {
         return Checked::Refused(step.refusal(), 0);
     };

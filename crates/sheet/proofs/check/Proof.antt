@@ -13,8 +13,8 @@ use Rattle.sheet.proofs.WalkLaws.{went, halted}
 use Rattle.sheet.proofs.check.Statement.{statement}
 use Rattle.sheet.proofs.check.Tie as tie
 
-due-at-requires : tie.Need-due-at-requires
-due-at-requires c κs = search needs
+function-record-requires : tie.Need-function-record-requires
+function-record-requires c κs = search needs
 
 enum-known-step : tie.Need-enum-known-step
 enum-known-step c = search needs
@@ -29,7 +29,7 @@ returns : tie.Need-returns
 returns c =
     let s = now (c .before .before .before .before .before .args .s) in
     let t = c .before .enum-told .given in
-    let h = halted (functionFault s 0) (endAt s 0) (kindAt s 0) (t .0 .0) (sym (t .1) ∙ c .before .before .before .due-at .ensures) in
+    let h = halted (functionFault s 0) (endAt s 0) (kindAt s 0) (t .0 .0) (sym (t .1) ∙ c .before .before .before .function-record .ensures) in
     checks s _ (rw (c .refusal .ensures, t .1) (function-bad s (t .0 .0) h))
 
 u32-at-requires : tie.Need-u32-at-requires
@@ -38,7 +38,7 @@ u32-at-requires c κs =
     let s = now (a .s) in
     let g = c .before .step .given in
     let w = went (functionFault s 0) (endAt s 0) (kindAt s 0) (g .0 .0) (g .0 .1 .0)
-    (sym (g .1) ∙ c .before .before .before .due-at .ensures) in
+    (sym (g .1) ∙ c .before .before .before .function-record .ensures) in
     let p = function-passed s 0 (w .no-fault) in
     let l = lies s 0 (p .whole) in
     omega (arith, p .length-is, l .ordered, l .within)
@@ -49,7 +49,7 @@ u32-at-requires-2 c κs =
     let s = now (a .s) in
     let g = c .before .before .step .given in
     let w = went (functionFault s 0) (endAt s 0) (kindAt s 0) (g .0 .0) (g .0 .1 .0)
-    (sym (g .1) ∙ c .before .before .before .before .due-at .ensures) in
+    (sym (g .1) ∙ c .before .before .before .before .function-record .ensures) in
     let p = function-passed s 0 (w .no-fault) in
     let l = lies s 0 (p .whole) in
     omega (arith, p .length-is, l .ordered, l .within)
@@ -63,7 +63,7 @@ u32-at-requires-3 c κs =
     let s = now (a .s) in
     let g = c .before .before .before .step .given in
     let w = went (functionFault s 0) (endAt s 0) (kindAt s 0) (g .0 .0) (g .0 .1 .0)
-    (sym (g .1) ∙ c .before .before .before .before .before .due-at .ensures) in
+    (sym (g .1) ∙ c .before .before .before .before .before .function-record .ensures) in
     let p = function-passed s 0 (w .no-fault) in
     let l = lies s 0 (p .whole) in
     omega (arith, p .length-is, l .ordered, l .within)
@@ -80,7 +80,7 @@ returns-2 c =
     let s = now (a .s) in
     let g = c .before .before .before .before .before .step .given in
     let w = went (functionFault s 0) (endAt s 0) (kindAt s 0) (g .0 .0) (g .0 .1 .0)
-    (sym (g .1) ∙ c .before .before .before .before .before .before .before .due-at .ensures) in
+    (sym (g .1) ∙ c .before .before .before .before .before .before .before .function-record .ensures) in
     let f = function-due s (w .no-fault) in
     let i = w .is-end in
     checks s (c .check-sizes .result) (cc)
@@ -89,7 +89,7 @@ pub check-spec : {M : Type 1} → statement M
 check-spec =
     tie.close
     (tie.spec
-    due-at-requires
+    function-record-requires
     enum-known-step
     enum-told
     refusal-requires

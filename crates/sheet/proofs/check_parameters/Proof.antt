@@ -10,8 +10,8 @@ use Rattle.sheet.proofs.WalkLaws.{went, halted, parameters-lie}
 use Rattle.sheet.proofs.check_parameters.Statement.{statement}
 use Rattle.sheet.proofs.check_parameters.Tie as tie
 
-due-at-requires : tie.Need-due-at-requires
-due-at-requires c κs = search needs
+parameter-record-requires : tie.Need-parameter-record-requires
+parameter-record-requires c κs = search needs
 
 enum-known-step : tie.Need-enum-known-step
 enum-known-step c = search needs
@@ -29,7 +29,7 @@ returns c =
     let s = now (a .s) in
     let t = c .before .enum-told .given in
     let h = halted (parametersFault s (a .slots) (a .at)) (endAt s (a .at)) (kindAt s (a .at)) (t .0 .0)
-    (sym (t .1) ∙ c .before .before .before .due-at .ensures) in
+    (sym (t .1) ∙ c .before .before .before .parameter-record .ensures) in
     rw (c .refusal .ensures, t .1, h)
 
 add-t9 : tie.Need-add-t9
@@ -37,7 +37,7 @@ add-t9 c =
     let a = c .before .before .before .before .before .args in
     let s = now (a .s) in
     let g = c .before .step .given in
-    let l = parameters-lie s (a .slots) (a .at) (g .0 .0) (g .0 .1 .0) (sym (g .1) ∙ c .before .before .before .due-at .ensures) in
+    let l = parameters-lie s (a .slots) (a .at) (g .0 .0) (g .0 .1 .0) (sym (g .1) ∙ c .before .before .before .parameter-record .ensures) in
     omega (arith, l .0, l .1)
 
 add-t10 : tie.Need-add-t10
@@ -45,7 +45,7 @@ add-t10 c =
     let a = c .before .before .before .before .before .args in
     let s = now (a .s) in
     let g = c .before .step .given in
-    let l = parameters-lie s (a .slots) (a .at) (g .0 .0) (g .0 .1 .0) (sym (g .1) ∙ c .before .before .before .due-at .ensures) in
+    let l = parameters-lie s (a .slots) (a .at) (g .0 .0) (g .0 .1 .0) (sym (g .1) ∙ c .before .before .before .parameter-record .ensures) in
     omega (arith, l .0, l .1)
 
 sub-t11 : tie.Need-sub-t11
@@ -53,7 +53,7 @@ sub-t11 c =
     let a = c .before .before .before .before .before .args in
     let s = now (a .s) in
     let g = c .before .step .given in
-    let l = parameters-lie s (a .slots) (a .at) (g .0 .0) (g .0 .1 .0) (sym (g .1) ∙ c .before .before .before .due-at .ensures) in
+    let l = parameters-lie s (a .slots) (a .at) (g .0 .0) (g .0 .1 .0) (sym (g .1) ∙ c .before .before .before .parameter-record .ensures) in
     omega (arith, l .0, l .1)
 
 check-slots-requires : tie.Need-check-slots-requires
@@ -66,14 +66,14 @@ returns-2 c =
     let s = now (a .s) in
     let g = c .before .before .step .given in
     let w = went (parametersFault s (a .slots) (a .at)) (endAt s (a .at)) (kindAt s (a .at)) (g .0 .0) (g .0 .1 .0)
-    (sym (g .1) ∙ c .before .before .before .before .due-at .ensures) in
+    (sym (g .1) ∙ c .before .before .before .before .parameter-record .ensures) in
     rw (w .no-fault, ← w .is-end) (c .check-slots .ensures)
 
 pub check-parameters-spec : {M : Type 1} → statement M
 check-parameters-spec =
     tie.close
     (tie.spec
-    due-at-requires
+    parameter-record-requires
     enum-known-step
     enum-told
     refusal-requires
