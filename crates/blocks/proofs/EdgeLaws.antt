@@ -10,7 +10,7 @@ use Rattle.memory.specs.Names.{blockOfCell, successorCell, successorCountCell}
 use Rattle.memory.specs.Scratch.{scratchWidths}
 use Rattle.memory.specs.declared.layout.Layout.{Layout}
 use Rattle.memory.proofs.CellLaws.{Sized, same-word, sized-store, cell-store-other, word-cell-other, word-store-other}
-use Rattle.memory.proofs.ScratchLaws.{word-put, place-blocks, place-edges}
+use Rattle.memory.proofs.ScratchLaws.{word-put, place-blocks, place-successors}
 use Rattle.blocks.specs.Words.{countedEdges, linkEdges, putEdges}
 
 -- ---- edges from e on
@@ -46,7 +46,7 @@ module _ (y : Layout) where
   link-at e (t ∷ ts) m zero z h l =
       let q : e + 0 ≡ e = omega arith in
       rw q (link-apart (suc e) ts (store m successorCell e (word m blockOfCell t)) e (λ i a b w. omega arith)
-      ∙ word-put y z (place-edges y 16 e (omega arith) (omega arith) (omega arith)) (word m blockOfCell t))
+      ∙ word-put y z (place-successors y 16 e (omega arith) (omega arith)) (word m blockOfCell t))
   link-at e (t ∷ ts) m (suc k) z h l =
       let q : e + suc k ≡ suc e + k = omega arith in
       rw q (link-at (suc e) ts (store m successorCell e (word m blockOfCell t)) k
@@ -103,8 +103,8 @@ module _ (y : Layout) (b n : ℕ) (m : Mem) (z : Sized (scratchWidths y) m) (h :
   cleared-edge zero l =
       let q : 2 * b + 0 ≡ 2 * b = omega arith in
       rw q (word-store-other m₂ successorCell (2 * b + 1) 0 successorCell (2 * b) (λ _ w. omega arith)
-      ∙ word-put y z₁ (place-edges y 16 (2 * b) (omega arith) (omega arith) (omega arith)) 0)
-  cleared-edge (suc zero) l = word-put y z₂ (place-edges y 16 (2 * b + 1) (omega arith) (omega arith) (omega arith)) 0
+      ∙ word-put y z₁ (place-successors y 16 (2 * b) (omega arith) (omega arith)) 0)
+  cleared-edge (suc zero) l = word-put y z₂ (place-successors y 16 (2 * b + 1) (omega arith) (omega arith)) 0
   cleared-edge (suc (suc k)) l = absurd (omega arith)
 
   other-edge : (j : ℕ) → j < 2 * b → word (countedEdges b n m) successorCell j ≡ word m successorCell j

@@ -50,7 +50,7 @@ module _ (code : List Instruction) (parameter : ℕ → Bool) (w : ℕ) where
 
   -- all blocks, as a layout of rows only
   abbrev pub rowLayout : Layout
-  rowLayout = record { instructions = 0; blocks = blockCount code; words = w; awaits = 0 }
+  rowLayout = record { instructions = 0; blocks = blockCount code; words = w; awaits = 0; extra = 0 }
 
   abbrev pub allRows : Mem
   allRows = rowCells (range 0 (blockCount code))

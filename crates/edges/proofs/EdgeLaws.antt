@@ -5,14 +5,17 @@ use mathlib.Core.Logic.{_≢_}
 use mathlib.Core.List.{List}
 use Prim.Native.Nat.{ℕ, zero, suc, _+_, _*_, _≤_, _<_}
 use native.Mathlib.Omega.{arith}
-use lib.ListN.{getD, set, replicate, getD-replicate}
+use native.Mathlib.Decide.{ℕ-discrete}
+use lib.ListN.{length, getD, set, replicate, getD-replicate}
 use Rattle.memory.specs.Cells.{Mem, cell, word, store, storeCell}
 use Rattle.memory.specs.Names.{flag, successorCell, successorCountCell}
 use Rattle.memory.specs.Scratch.{scratchWidths}
 use Rattle.memory.specs.declared.layout.Layout.{Layout}
+use Rattle.memory.specs.Edges.{successorAt}
+use Rattle.memory.proofs.EdgeLaws.{successor-kept}
 use Rattle.memory.proofs.CellLaws.{Sized, same-word, word-cell-same, cell-store-other}
 use Rattle.memory.proofs.ScratchLaws.{sized-among, width-blocks}
-use Rattle.edges.specs.Edges.{marked, Holds, Cleared}
+use Rattle.edges.specs.Edges.{edgesBefore, marked, Holds, Cleared}
 
 -- ---- marks
 
@@ -49,10 +52,32 @@ pub holds-kept : {next : ℕ → List ℕ} {y : Layout} {m m′ : Mem} → cell 
     → cell m′ successorCell ≡ cell m successorCell → Holds next y m → Holds next y m′
 holds-kept {m = m} {m′ = m′} e f h = record {
   counted = λ b lt. same-word b e ∙ h .counted b lt;
-  stored = λ b k lt kt. same-word (2 * b + k) f ∙ h .stored b k lt kt;
+  stored = λ b k lt kt. successor-kept m m′ e f b k ∙ h .stored b k lt kt;
+  small = h .small;
   few = h .few;
   below = h .below;
 }
+
+-- at most two a block
+pub edges-two : (next : ℕ → List ℕ) (n : ℕ) → ((b : ℕ) → length (next b) ≤ 2) → edgesBefore next n ≤ 2 * n
+edges-two next zero h = omega arith
+edges-two next (suc n) h = omega (arith, edges-two next n h, h n)
+
+-- no block has more edges than there are
+pub edges-within : (next : ℕ → List ℕ) (b n : ℕ) → b < n → length (next b) ≤ edgesBefore next n
+edges-within next b zero h = absurd (omega arith)
+edges-within next b (suc n) h = go (ℕ-discrete b n) (λ l. edges-within next b n l)
+  where
+    go : Dec (b ≡ n) → (b < n → length (next b) ≤ edgesBefore next n) → length (next b) ≤ edgesBefore next (suc n)
+    go (yes q) r = rw q (omega arith)
+    go (no q) r = omega (arith, r (omega arith))
+
+-- an edge that is counted leads to a block
+pub successor-there : {next : ℕ → List ℕ} {y : Layout} {m : Mem} → Holds next y m → (b k : ℕ) → b < y .blocks → k < word m successorCountCell b
+    → successorAt m b k < y .blocks
+successor-there {next} h b k lt kt =
+    let l : k < length (next b) = omega (arith, h .counted b lt) in
+    rw (h .stored b k lt l) (h .below b k lt l)
 
 -- ---- a cell that is cleared
 

@@ -15,7 +15,9 @@ use Rattle.memory.proofs.CellLaws.{same-word}
 use Rattle.budget.specs.declared.FlowBudget.{FlowBudget}
 use Rattle.budget.specs.declared.Limits.{Limits}
 use Rattle.budget.specs.declared.Charged.{Charged}
-use Rattle.edges.specs.Edges.{Holds}
+use Rattle.memory.specs.Edges.{sourceOf, placeOf}
+use Rattle.memory.specs.Scratch.{edgeWords}
+use Rattle.edges.specs.Edges.{edgesBefore, Holds}
 use Rattle.bitset.specs.Below.{AllBelow}
 use Rattle.edges.specs.Predecessors.{chainFrom, edgesInto, Chained, Linked}
 use Rattle.edges.specs.Reachability.{Reached}
@@ -36,7 +38,7 @@ module _ (m m′ : Mem) (first : cell m′ firstEdgeCell ≡ cell m firstEdgeCel
   chain-kept : (n e : ℕ) → chainFrom m′ n e ≡ chainFrom m n e
   chain-kept zero e = refl
   chain-kept (suc n) e =
-      ap (λ (es : List ℕ). e ∷ es) (ap (chainFrom m′ n) (same-word e links) ∙ chain-kept n (word m nextEdgeCell e))
+      ap (λ (es : List ℕ). e ∷ es) (ap (chainFrom m′ n) (same-word (placeOf e) links) ∙ chain-kept n (word m nextEdgeCell (placeOf e)))
 
   pub edges-kept : (b : ℕ) → edgesInto m′ b ≡ edgesInto m b
   edges-kept b =
@@ -45,8 +47,8 @@ module _ (m m′ : Mem) (first : cell m′ firstEdgeCell ≡ cell m firstEdgeCel
 
   pub chained-kept : {next : ℕ → List ℕ} {y : Layout} → Chained next y m → Chained next y m′
   chained-kept {y = y} c = record {
-    are = λ b lt. ap (map (λ e. e / 2)) (edges-kept b) ∙ c .are b lt;
-    edges = λ b lt. subst (λ (es : List ℕ). AllBelow (2 * y .blocks) es) (sym (edges-kept b)) (c .edges b lt);
+    are = λ b lt. ap (map sourceOf) (edges-kept b) ∙ c .are b lt;
+    edges = λ b lt. subst (λ (es : List ℕ). AllBelow (edgeWords y) (map placeOf es)) (sym (edges-kept b)) (c .edges b lt);
   }
 
 pub reached-chained : {next : ℕ → List ℕ} {y : Layout} {l : Limits} {b : FlowBudget} {m m′ : Mem} {r : Charged} → Reached y l b m m′ r
@@ -58,7 +60,7 @@ reached-chained {m = m} {m′ = m′} f c =
 -- ---- how long a chain is
 pub chain-length : (m : Mem) (n e : ℕ) → length (chainFrom m n e) ≡ n
 chain-length m zero e = refl
-chain-length m (suc n) e = ap suc (chain-length m n (word m nextEdgeCell e))
+chain-length m (suc n) e = ap suc (chain-length m n (word m nextEdgeCell (placeOf e)))
 
 edges-few : (b c : ℕ) (l rest : List ℕ) → length (edgesTo b c l rest) ≤ length l + length rest
 edges-few b c [] rest = omega arith
@@ -69,23 +71,19 @@ edges-few b c (d ∷ l) rest = go (eqb b d) (edges-few b c l rest)
     go true h = omega arith
     go false h = omega arith
 
-predecessors-few : (next : ℕ → List ℕ) (b c n : ℕ) → ((i : ℕ) → i < c + n → length (next i) ≤ 2)
-    → length (predecessorsFrom b c (tabulate c n next)) ≤ 2 * n
-predecessors-few next b c zero h = omega arith
-predecessors-few next b c (suc n) h =
-    omega (
-      arith,
-      edges-few b c (next c) (predecessorsFrom b (suc c) (tabulate (suc c) n next)),
-      h c (omega arith),
-      predecessors-few next b (suc c) n (λ i lt. h i (omega arith)),
-    )
+-- no block has more predecessors than the blocks from c on have edges
+predecessors-few : (next : ℕ → List ℕ) (b c n : ℕ) → edgesBefore next c + length (predecessorsFrom b c (tabulate c n next)) ≤ edgesBefore next (c + n)
+predecessors-few next b c zero = let e : c + 0 ≡ c = omega arith in rw e (omega arith)
+predecessors-few next b c (suc n) =
+    let e : c + suc n ≡ suc c + n = omega arith in
+    rw e (omega (arith, edges-few b c (next c) (predecessorsFrom b (suc c) (tabulate (suc c) n next)), predecessors-few next b (suc c) n))
 
--- a block has as many predecessors as its count says, at most two for each block
+-- a block has as many predecessors as its count says, no more than there are edges
 module _ {next : ℕ → List ℕ} {y : Layout} {m m′ : Mem} (h : Holds next y m) (c : Chained next y m′) (b : ℕ) (lt : b < y .blocks) where
   pub predecessor-count : word m′ predecessorCountCell b ≡ length (predecessorsFrom b 0 (tabulate 0 (y .blocks) next))
   predecessor-count =
-      sym (chain-length m′ (word m′ predecessorCountCell b) (word m′ firstEdgeCell b)) ∙ sym (length-map (edgesInto m′ b) (λ e. e / 2))
+      sym (chain-length m′ (word m′ predecessorCountCell b) (word m′ firstEdgeCell b)) ∙ sym (length-map (edgesInto m′ b) sourceOf)
       ∙ ap length (c .are b lt)
 
-  pub count-few : word m′ predecessorCountCell b ≤ 2 * y .blocks
-  count-few = omega (arith, predecessor-count, predecessors-few next b 0 (y .blocks) (λ i l. h .few i (omega arith)))
+  pub count-few : word m′ predecessorCountCell b ≤ edgeWords y
+  count-few = let e : 0 + y .blocks ≡ y .blocks = omega arith in omega (arith, predecessor-count, rw e at (predecessors-few next b 0 (y .blocks)), h .few)

@@ -11,7 +11,8 @@ use Rattle.dataflow.specs.Lists.{sum}
 use Rattle.dataflow.specs.Search.{Sweep, add, addAll, onNext, takeTop, sweep, sweepFrom}
 use Rattle.dataflow.proofs.Reachability.{add-taken}
 use Rattle.memory.specs.Cells.{Mem, word}
-use Rattle.memory.specs.Names.{flag, reachableCell, stackBlockCell, successorCell, successorCountCell}
+use Rattle.memory.specs.Names.{flag, reachableCell, stackBlockCell, successorCountCell}
+use Rattle.memory.specs.Edges.{successorAt}
 use Rattle.memory.specs.declared.layout.Layout.{Layout}
 use Rattle.budget.specs.declared.FlowBudget.{FlowBudget}
 use Rattle.budget.specs.declared.Limits.{Limits}
@@ -57,7 +58,7 @@ module _ {next : ℕ → List ℕ} {y : Layout} {block top : ℕ} {r : Sweep} {m
 
 -- the next successor is a block
 pub successor-at : {next : ℕ → List ℕ} {y : Layout} {block n k to : ℕ} {m m′ : Mem} → block < y .blocks → Holds next y m → OnlySearch m m′
-    → n ≡ word m successorCountCell block → k < n → to ≡ word m′ successorCell (2 * block + k)
+    → n ≡ word m successorCountCell block → k < n → to ≡ successorAt m′ block k
     → (k < length (next block)) × (to ≡ getD (next block) k 0) × (to < y .blocks)
 successor-at {next} {block = block} {k = k} lt h f en less e =
     let few : k < length (next block) = omega (arith, h .counted block lt) in

@@ -2,10 +2,12 @@
 use mathlib.Core.Path.{_≡_}
 use mathlib.Core.Bool.{Bool, true, false}
 use mathlib.Core.List.{List}
-use Prim.Native.Nat.{ℕ, zero, suc, _+_, _*_, _≤_, _<_}
+use Prim.Native.Nat.{ℕ, zero, suc, _+_, _≤_, _<_}
 use lib.ListN.{length, getD}
 use Rattle.memory.specs.Cells.{Mem, cell, word}
-use Rattle.memory.specs.Names.{successorCell, successorCountCell}
+use Rattle.memory.specs.Names.{successorCountCell}
+use Rattle.memory.specs.Edges.{successorAt}
+use Rattle.memory.specs.Scratch.{edgeWords}
 use Rattle.memory.specs.declared.layout.Layout.{Layout}
 
 -- a word as a truth value: a mark where it is not 0
@@ -13,11 +15,17 @@ abbrev pub marked : ℕ → Bool
 marked zero = false
 marked (suc n) = true
 
--- The words hold the graph `next`: at most two edges a block (kinds 12 and 39), each to a block; edge 2 × b + k is the k-th of block b.
+-- how many edges the blocks before c have
+abbrev pub edgesBefore : (ℕ → List ℕ) → ℕ → ℕ
+edgesBefore next zero = 0
+edgesBefore next (suc c) = edgesBefore next c + length (next c)
+
+-- The words hold the graph `next`: how many edges each block has, where each leads, and there are no more edges than have a word.
 pub record Holds (next : ℕ → List ℕ) (y : Layout) (m : Mem) : Type 0 where
   pub counted : (b : ℕ) → b < y .blocks → word m successorCountCell b ≡ length (next b)
-  pub stored : (b k : ℕ) → b < y .blocks → k < length (next b) → word m successorCell (2 * b + k) ≡ getD (next b) k 0
-  pub few : (b : ℕ) → b < y .blocks → length (next b) ≤ 2
+  pub stored : (b k : ℕ) → b < y .blocks → k < length (next b) → successorAt m b k ≡ getD (next b) k 0
+  pub small : y .blocks ≤ 65536
+  pub few : edgesBefore next (y .blocks) ≤ edgeWords y
   pub below : (b k : ℕ) → b < y .blocks → k < length (next b) → getD (next b) k 0 < y .blocks
 
 -- some graph is held

@@ -1,19 +1,21 @@
 -- The predecessors of a block as a chain of edges.
 use mathlib.Core.Path.{_≡_}
 use mathlib.Core.List.{List, [], _∷_, map}
-use Prim.Native.Nat.{ℕ, zero, suc, _*_, _/_, _<_}
+use Prim.Native.Nat.{ℕ, zero, suc, _<_}
 use Rattle.dataflow.specs.Lists.{tabulate}
 use Rattle.dataflow.specs.Results.{predecessorsFrom}
 use Rattle.memory.specs.Cells.{Mem, cell, word}
 use Rattle.memory.specs.Names.{firstEdgeCell, nextEdgeCell, predecessorCountCell}
 use Rattle.memory.specs.declared.layout.Layout.{Layout}
+use Rattle.memory.specs.Edges.{sourceOf, placeOf}
+use Rattle.memory.specs.Scratch.{edgeWords}
 use Rattle.edges.specs.Edges.{Holds}
 use Rattle.bitset.specs.Below.{AllBelow}
 
 -- n edges of a chain, from edge e on
 abbrev pub chainFrom : Mem → ℕ → ℕ → List ℕ
 chainFrom m zero e = []
-chainFrom m (suc n) e = e ∷ chainFrom m n (word m nextEdgeCell e)
+chainFrom m (suc n) e = e ∷ chainFrom m n (word m nextEdgeCell (placeOf e))
 
 -- the edges that lead to block b
 abbrev pub edgesInto : Mem → ℕ → List ℕ
@@ -23,10 +25,10 @@ edgesInto m b = chainFrom m (word m predecessorCountCell b) (word m firstEdgeCel
 abbrev pub predecessorsOf : (ℕ → List ℕ) → ℕ → ℕ → List ℕ
 predecessorsOf next n b = predecessorsFrom b 0 (tabulate 0 n next)
 
--- The words hold the predecessors of the graph: the chain of each block has its edges in order, each the number of an edge.
+-- The words hold the predecessors of the graph: the chain of each block has its edges in order, each with a word.
 pub record Chained (next : ℕ → List ℕ) (y : Layout) (m : Mem) : Type 0 where
-  pub are : (b : ℕ) → b < y .blocks → map (λ e. e / 2) (edgesInto m b) ≡ predecessorsOf next (y .blocks) b
-  pub edges : (b : ℕ) → b < y .blocks → AllBelow (2 * y .blocks) (edgesInto m b)
+  pub are : (b : ℕ) → b < y .blocks → map sourceOf (edgesInto m b) ≡ predecessorsOf next (y .blocks) b
+  pub edges : (b : ℕ) → b < y .blocks → AllBelow (edgeWords y) (map placeOf (edgesInto m b))
 
 -- what `predecessors` does: it changes three cells, and then they hold the predecessors of whatever graph the words hold
 pub record Linked (y : Layout) (m m′ : Mem) : Type 0 where

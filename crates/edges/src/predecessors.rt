@@ -1,13 +1,14 @@
-// The predecessors of each block, as a chain of edges: edge 2 * b + k is the k-th of block b, and its word in NEXT_EDGE is the next edge that leads
-// to the same block. Edges are taken from the last, so that each chain ascends, as the source lists them.
+// The predecessors of each block, as a chain of edges. An edge is named by the block that it leaves and by its place; the word of that place in
+// NEXT_EDGE is the next edge that leads to the same block. Edges are taken from the last, so that each chain ascends, as the source lists them.
 use crate::words;
 use memory::layout;
 use memory::layout::Layout;
 ghost use mathlib.Core.Path.{_≡_};
-ghost use Prim.Native.Nat.{_<_, _*_};
+ghost use Prim.Native.Nat.{_<_};
 ghost use lib.ListN.{length};
 ghost use Rattle.memory.specs.Names.{predecessorCountCell};
-ghost use Rattle.memory.specs.Scratch.{scratch, Room};
+ghost use Rattle.memory.specs.Scratch.{scratch, edgeWords, Room};
+ghost use Rattle.memory.specs.Edges.{placeOf};
 ghost use Rattle.edges.specs.Edges.{Held, Cleared};
 ghost use Rattle.edges.specs.Predecessors.{Linked};
 ghost use Rattle.edges.specs.Chains.{Linking, Chaining, RoomToCount, linkedIn};
@@ -19,9 +20,10 @@ pub fn predecessors(s: &mut [u64], y: Layout)
 {
     clear_counts(s, y);
     let mut left = y.blocks;
+    let mut low = 2 * y.blocks + y.extra;
     while 0 < left {
         left -= 1;
-        chain_successors(s, y, left);
+        low = chain_successors(s, y, left, low);
     }
 }
 
@@ -33,27 +35,28 @@ fn clear_counts(s: &mut [u64], y: Layout)
     words::clear(s, y, layout::PREDECESSOR_COUNT);
 }
 
-// The edges of one block, the last first.
-fn chain_successors(s: &mut [u64], y: Layout, block: usize)
-    requires { ⌜ Room y (length (now s)) × (block < y .blocks) × Linking y block (scratch y (now s)) ⌝ }
-    ensures { λ _. ⌜ Chaining y block (scratch y (now (s .entry))) (scratch y (now (s .exit))) ⌝ }
+// The edges of one block, the last first, at the places before `low`. Where these begin.
+fn chain_successors(s: &mut [u64], y: Layout, block: usize, low: usize) -> usize
+    requires { ⌜ Room y (length (now s)) × (block < y .blocks) × Linking y block low (scratch y (now s)) ⌝ }
+    ensures { λ r. ⌜ Chaining y block low (scratch y (now (s .entry))) (scratch y (now (s .exit))) r ⌝ }
 {
     let mut k = memory::scratch::get(s, y, layout::SUCCESSOR_COUNT, block) as usize;
+    let base = low - k;
     while 0 < k {
         k -= 1;
-        let edge = 2 * block + k;
-        let to = memory::scratch::get(s, y, layout::SUCCESSOR, edge) as usize;
-        chain(s, y, edge, to);
+        let to = memory::edges::successor(s, y, block, k) as usize;
+        chain(s, y, block * 4294967296 + (base + k), to);
     }
+    base
 }
 
 // Puts an edge before the chain of the block that it leads to.
 fn chain(s: &mut [u64], y: Layout, edge: usize, to: usize)
-    requires { ⌜ Room y (length (now s)) × (edge < 2 * y .blocks) × (to < y .blocks) × RoomToCount y to (scratch y (now s)) ⌝ }
+    requires { ⌜ Room y (length (now s)) × (placeOf edge < edgeWords y) × (to < y .blocks) × RoomToCount y to (scratch y (now s)) ⌝ }
     ensures { λ _. ⌜ scratch y (now (s .exit)) ≡ linkedIn (scratch y (now (s .entry))) edge to ⌝ }
 {
     let first = memory::scratch::get(s, y, layout::FIRST_EDGE, to);
-    memory::scratch::put(s, y, layout::NEXT_EDGE, edge, first);
+    memory::scratch::put(s, y, layout::NEXT_EDGE, edge % 4294967296, first);
     memory::scratch::put(s, y, layout::FIRST_EDGE, to, edge as u64);
     let count = memory::scratch::get(s, y, layout::PREDECESSOR_COUNT, to);
     memory::scratch::put(s, y, layout::PREDECESSOR_COUNT, to, count + 1);

@@ -62,7 +62,7 @@ fill-asks {w₁ = w₁} {e = e} h y q = subst (λ (z : Layout). Room z (length w
   where
     go : (f : Examined) → e ≡ f → Room (layoutIn f) (length w₁)
     go (Accepted id y awaits left) q = h .listing id y awaits left q .room
-    go (Refused r id left) q = record { instructions = omega arith; blocks = omega arith; words = omega arith; fits = omega arith }
+    go (Refused r id left) q = record { instructions = omega arith; blocks = omega arith; words = omega arith; extra = omega arith; fits = omega arith }
 
 -- what a call answers and leaves in the sets buffer, whatever the form of its block list; e is the answer of `examine`
 pub record Told (s : List ℕ) (b : FlowBudget) (n : Lengths) (v′ : List ℕ) (e : Examined) (r : Answer) : Type 0 where

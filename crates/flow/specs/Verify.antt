@@ -46,4 +46,4 @@ answerIn (examined.Refused r id b) = Refused r id b
 -- the layout in it: none after a refusal
 abbrev pub layoutIn : Examined → Layout
 layoutIn (examined.Accepted id y awaits b) = y
-layoutIn (examined.Refused r id b) = record { instructions = 0; blocks = 0; words = 0; awaits = 0 }
+layoutIn (examined.Refused r id b) = record { instructions = 0; blocks = 0; words = 0; awaits = 0; extra = 0 }

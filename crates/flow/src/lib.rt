@@ -49,6 +49,7 @@ pub fn layout_of(e: Examined) -> Layout
             blocks: 0,
             words: 0,
             awaits: 0,
+            extra: 0,
         },
     }
 }

@@ -4,7 +4,7 @@ use mathlib.Core.Bool.{Bool, false}
 use mathlib.Core.List.{List, [], _∷_}
 use Prim.Native.Nat.{ℕ, _+_, _*_, _≤_, _<_}
 use native.Mathlib.Omega.{arith}
-use lib.ListN.{getD}
+use lib.ListN.{length, getD}
 use Rattle.bitset.specs.Sets.{member}
 use Rattle.dataflow.specs.Code.{Instruction, blockSuccessors}
 use Rattle.dataflow.proofs.Lists.{mem-getD}
@@ -50,6 +50,8 @@ use Rattle.blocks.specs.Blocks.{Ready, Block}
 use Rattle.blocks.proofs.MemberLaws.{among-elem}
 use Rattle.blocks.proofs.ReadLaws.{targets-everywhere}
 use Rattle.blocks.proofs.CodeLaws.{few-successors}
+use Rattle.memory.proofs.EdgeLaws.{successor-few}
+use Rattle.edges.proofs.EdgeLaws.{edges-two}
 use Rattle.blocks.proofs.BlockLaws.{ready-kept}
 use Rattle.graph.specs.Graph.{Holding, Joined}
 
@@ -77,12 +79,16 @@ module _ (s : List ℕ) (x : Script) (y : Layout) (m₁ : Mem) (ready : Ready s 
   some-block =
       omega (arith, ready .fits .blocks, blocks-some (flowCode (partsOf s)) (parameterIn (partsOf s)) (x .slots) (checked s x (ready .sound)))
 
+  few-edges : (b : ℕ) → length (blockSuccessors (flowCode (partsOf s)) b) ≤ 2
+  few-edges = few-successors (flowCode (partsOf s)) (targets-everywhere s x (ready .sound))
+
   -- the words of the blocks hold the edges between them
   pub blocks-hold : Holds (blockSuccessors (flowCode (partsOf s))) y m₁
   blocks-hold = record {
     counted = λ b l. built (parameterIn (partsOf s)) b l .counted;
-    stored = λ b k l h. built (parameterIn (partsOf s)) b l .edges k h;
-    few = λ b l. few-successors (flowCode (partsOf s)) (targets-everywhere s x (ready .sound)) b;
+    stored = λ b k l h. successor-few m₁ b k (omega (arith, built (parameterIn (partsOf s)) b l .counted, few-edges b)) ∙ built (parameterIn (partsOf s)) b l .edges k h;
+    small = omega (arith, ready .fits .few-blocks, ready .fits .instructions, ready .sound .few-code);
+    few = omega (arith, edges-two (blockSuccessors (flowCode (partsOf s))) (y .blocks) few-edges);
     below = λ b k l h.
         let z = successors-below (flowCode (partsOf s)) (parameterIn (partsOf s)) (x .slots) (checked s x (ready .sound)) b
         (getD (blockSuccessors (flowCode (partsOf s)) b) k 0) (mem-getD (blockSuccessors (flowCode (partsOf s)) b) k 0 h) in

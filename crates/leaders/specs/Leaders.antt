@@ -22,7 +22,7 @@ use Rattle.script.specs.Script.{flowCode}
 
 -- the layout of scratch before the blocks are known
 abbrev pub marking : Script → Layout
-marking x = record { instructions = x .count; blocks = 0; words = 0; awaits = 0 }
+marking x = record { instructions = x .count; blocks = 0; words = 0; awaits = 0; extra = 0 }
 
 -- these instructions marked
 unfoldable pub markAll : List ℕ → Mem → Mem

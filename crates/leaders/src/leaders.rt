@@ -39,6 +39,7 @@ pub fn leaders(
         blocks: 0,
         words: 0,
         awaits: 0,
+        extra: 0,
     };
     memory::scratch::clear(s, y, layout::BLOCK_OF);
     memory::scratch::put(s, y, layout::BLOCK_OF, 0, 1);
@@ -61,6 +62,7 @@ fn mark_all(
         blocks: 0,
         words: 0,
         awaits: 0,
+        extra: 0,
     };
     let mut left = budget;
     let mut at = script.code_at;

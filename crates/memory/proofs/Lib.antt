@@ -3,3 +3,4 @@ pub mod CellLaws
 pub mod CellRows
 pub mod ScratchLaws
 pub mod SetsLaws
+pub mod EdgeLaws

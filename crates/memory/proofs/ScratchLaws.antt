@@ -8,7 +8,7 @@ use Rattle.bitset.specs.Sets.{Words}
 use Rattle.bitset.specs.Rows.{row}
 use Rattle.memory.specs.declared.layout.Layout.{Layout}
 use Rattle.memory.specs.Cells.{Mem, total, cell, word, store}
-use Rattle.memory.specs.Scratch.{scratchWidths, scratchCells, scratchWords, scratch, Room, Place, Row}
+use Rattle.memory.specs.Scratch.{edgeWords, scratchWidths, scratchCells, scratchWords, scratch, Room, Place, Row}
 use Rattle.memory.proofs.CellLaws.{start, width, cell-fits, length-cells, cell-row, cell-words, word-store-same}
 use Rattle.memory.proofs.CellLaws.{Sized, sized, total-append, total-equal, start-equal, start-in, start-past, width-in, width-past}
 use Rattle.memory.proofs.CellRows.{Lies, lies-word, lies-stored}
@@ -17,8 +17,11 @@ module _ (y : Layout) where
   abbrev rows : List ℕ
   rows = replicate (4 * y .blocks + 4) (y .words)
 
+  abbrev links : List ℕ
+  links = replicate 1 (edgeWords y) ++ rows
+
   abbrev edges : List ℕ
-  edges = replicate 2 (2 * y .blocks) ++ rows
+  edges = replicate 1 (2 * y .blocks) ++ links
 
   abbrev blocks : List ℕ
   blocks = replicate 12 (y .blocks) ++ edges
@@ -28,17 +31,20 @@ module _ (y : Layout) where
   unfolding scratchWidths
   scratch-count = simp length-replicate (omega arith)
 
-  pub scratch-total : total (scratchWidths y) ≡ scratchWords y
+  -- three words an extra edge lie in no cell
+  pub scratch-total : total (scratchWidths y) + 3 * y .extra ≡ scratchWords y
   unfolding scratchWidths
   scratch-total =
-      total-append (replicate 4 (y .instructions)) blocks
-      ∙ omega (
+      omega (
         arith,
+        total-append (replicate 4 (y .instructions)) blocks,
         total-equal 4 (y .instructions),
         total-append (replicate 12 (y .blocks)) edges,
         total-equal 12 (y .blocks),
-        total-append (replicate 2 (2 * y .blocks)) rows,
-        total-equal 2 (2 * y .blocks),
+        total-append (replicate 1 (2 * y .blocks)) links,
+        total-equal 1 (2 * y .blocks),
+        total-append (replicate 1 (edgeWords y)) rows,
+        total-equal 1 (edgeWords y),
         total-equal (4 * y .blocks + 4) (y .words),
       )
 
@@ -62,13 +68,19 @@ module _ (y : Layout) where
     width-behind-blocks g =
         width-past 4 (y .instructions) blocks k (omega arith) ∙ width-past 12 (y .blocks) edges (k - 4) (omega arith)
 
-    pub width-edges : 16 ≤ k → k < 18 → width (scratchWidths y) k ≡ 2 * y .blocks
-    width-edges g h = width-behind-blocks g ∙ width-in 2 (2 * y .blocks) rows (k - 4 - 12) (omega arith)
+    pub width-successors : k ≡ 16 → width (scratchWidths y) k ≡ 2 * y .blocks
+    width-successors e = width-behind-blocks (omega arith) ∙ width-in 1 (2 * y .blocks) links (k - 4 - 12) (omega arith)
+
+    pub width-links : k ≡ 17 → width (scratchWidths y) k ≡ edgeWords y
+    width-links e =
+        width-behind-blocks (omega arith) ∙ width-past 1 (2 * y .blocks) links (k - 4 - 12) (omega arith)
+        ∙ width-in 1 (edgeWords y) rows (k - 4 - 12 - 1) (omega arith)
 
     pub width-row : Row y k → width (scratchWidths y) k ≡ y .words
     width-row r =
-        width-behind-blocks (omega arith) ∙ width-past 2 (2 * y .blocks) rows (k - 4 - 12) (omega arith)
-        ∙ getD-replicate (4 * y .blocks + 4) (k - 4 - 12 - 2) (y .words) 0 (omega arith)
+        width-behind-blocks (omega arith) ∙ width-past 1 (2 * y .blocks) links (k - 4 - 12) (omega arith)
+        ∙ width-past 1 (edgeWords y) rows (k - 4 - 12 - 1) (omega arith)
+        ∙ getD-replicate (4 * y .blocks + 4) (k - 4 - 12 - 1 - 1) (y .words) 0 (omega arith)
 
     -- ---- where cell k begins
     pub start-instructions : k < 4 → start (scratchWidths y) k ≡ k * y .instructions
@@ -91,16 +103,17 @@ module _ (y : Layout) where
     pub start-edges : 16 ≤ k → k < 18
         → start (scratchWidths y) k ≡ 4 * y .instructions + 12 * y .blocks + (k - 16) * (2 * y .blocks)
     start-edges g h =
-        omega (arith, start-behind-blocks g, start-in 2 (2 * y .blocks) rows (k - 16) (omega arith))
+        omega (arith, start-behind-blocks g, start-in 1 (2 * y .blocks) links (k - 16) (omega arith))
 
-    pub start-row : Row y k → start (scratchWidths y) k ≡ 4 * y .instructions + 16 * y .blocks + (k - 18) * y .words
+    pub start-row : Row y k → start (scratchWidths y) k ≡ 4 * y .instructions + 16 * y .blocks + y .extra + (k - 18) * y .words
     start-row r =
-        let e : k - 16 - 2 ≡ k - 18 = omega arith in
+        let e : k - 16 - 1 - 1 ≡ k - 18 = omega arith in
         omega (
           arith,
           start-behind-blocks (omega arith),
-          start-past 2 (2 * y .blocks) rows (k - 16) (omega arith),
-          start-equal (4 * y .blocks + 4) (y .words) (k - 16 - 2) (omega arith),
+          start-past 1 (2 * y .blocks) links (k - 16) (omega arith),
+          start-past 1 (edgeWords y) rows (k - 16 - 1) (omega arith),
+          start-equal (4 * y .blocks + 4) (y .words) (k - 16 - 1 - 1) (omega arith),
           ap (λ (n : ℕ). n * y .words) e,
         )
 
@@ -112,8 +125,11 @@ module _ (y : Layout) where
       pub place-blocks : 4 ≤ k → k < 16 → i < y .blocks → Place y k i
       place-blocks a b g = record { among = omega arith; inside = rw (width-blocks a b) g }
 
-      pub place-edges : 16 ≤ k → k < 18 → i < 2 * y .blocks → Place y k i
-      place-edges a b g = record { among = omega arith; inside = rw (width-edges a b) g }
+      pub place-successors : k ≡ 16 → i < 2 * y .blocks → Place y k i
+      place-successors e g = record { among = omega arith; inside = rw (width-successors e) g }
+
+      pub place-links : k ≡ 17 → i < edgeWords y → Place y k i
+      place-links e g = record { among = omega arith; inside = rw (width-links e) g }
 
 -- ---- cells of this layout, however they came about
 module _ (y : Layout) {m : Mem} (z : Sized (scratchWidths y) m) where

@@ -2,4 +2,5 @@
 pub mod Cells
 pub mod Names
 pub mod Scratch
+pub mod Edges
 pub mod Sets

@@ -1,15 +1,20 @@
 -- The layout of scratch: document 01's 4 × N + B × (4 × w + 16) + 4 × w words, as cells.
-use mathlib.Core.List.{List, [], _∷_, _++_}
+use mathlib.Core.List.{List, _++_}
 use Prim.Native.Nat.{ℕ, _+_, _*_, _≤_, _<_}
 use lib.ListN.{getD, length, replicate}
 use Rattle.memory.specs.Cells.{Mem, cells}
 use Rattle.memory.specs.declared.layout.Layout.{Layout}
 
--- four cells of a word an instruction; twelve of a word a block; two of two words a block, a word an edge; four rows a block, and four more
+-- how many edges there may be: two a block, and the extra ones
+abbrev pub edgeWords : Layout → ℕ
+edgeWords y = 2 * y .blocks + y .extra
+
+-- four cells of a word an instruction; twelve of a word a block; two words a block for its successors; a word an edge; four rows a block, and
+-- four more
 unfoldable pub scratchWidths : Layout → List ℕ
 scratchWidths y =
     replicate 4 (y .instructions)
-    ++ (replicate 12 (y .blocks) ++ (replicate 2 (2 * y .blocks) ++ replicate (4 * y .blocks + 4) (y .words)))
+    ++ (replicate 12 (y .blocks) ++ (replicate 1 (2 * y .blocks) ++ (replicate 1 (edgeWords y) ++ replicate (4 * y .blocks + 4) (y .words))))
 
 -- how many cells there are
 abbrev pub scratchCells : Layout → ℕ
@@ -17,7 +22,7 @@ scratchCells y = 22 + 4 * y .blocks
 
 -- document 01's size of scratch
 abbrev pub scratchWords : Layout → ℕ
-scratchWords y = 4 * y .instructions + y .blocks * (4 * y .words + 16) + 4 * y .words
+scratchWords y = 4 * y .instructions + y .blocks * (4 * y .words + 16) + 4 * y .words + 4 * y .extra
 
 -- the words of scratch as cells
 unfoldable pub scratch : Layout → List ℕ → Mem
@@ -28,6 +33,7 @@ pub record Room (y : Layout) (n : ℕ) : Type 0 where
   pub instructions : y .instructions ≤ 65536
   pub blocks : y .blocks ≤ 65536
   pub words : y .words ≤ 1024
+  pub extra : y .extra ≤ 16777216
   pub fits : scratchWords y ≤ n
 
 -- word i of cell k is there

@@ -7,12 +7,13 @@ ghost use Rattle.memory.specs.Names.{usesRow, definesRow, stateRow, live
 ghost use Rattle.memory.specs.Scratch.{scratchWidths, scratchCells, scratchWords};
 ghost use Rattle.memory.specs.Sets.{setsWidths, setsWords};
 
-// The numbers that fix both layouts: instructions, blocks, words a set, and awaits.
+// The numbers that fix both layouts: instructions, blocks, words a set, awaits, and how many edges there may be past two a block.
 pub struct Layout {
     pub instructions: usize,
     pub blocks: usize,
     pub words: usize,
     pub awaits: usize,
+    pub extra: usize,
 }
 
 // Cells of a word an instruction: where its record stands; a leader mark, then the number of its block; where the k-th block begins; what
@@ -121,10 +122,13 @@ impl Layout {
 
     // Document 01's size of scratch.
     pub fn scratch_words(self) -> usize
-        requires { ⌜ (self .instructions ≤ 65536) × (self .blocks ≤ 65536) × (self .words ≤ 1024) ⌝ }
+        requires { ⌜ (self .instructions ≤ 65536) × (self .blocks ≤ 65536) × (self .words ≤ 1024) × (self .extra ≤ 16777216) ⌝ }
         ensures { λ r. ⌜ r ≡ scratchWords self ⌝ }
     {
-        4 * self.instructions + self.blocks * (4 * self.words + 16) + 4 * self.words
+        4 * self.instructions
+            + self.blocks * (4 * self.words + 16)
+            + 4 * self.words
+            + 4 * self.extra
     }
 
     // Document 01's size of the sets buffer.
@@ -137,7 +141,7 @@ impl Layout {
 
     // How wide cell k of scratch is, if it is no row.
     pub fn scratch_width(self, k: usize) -> usize
-        requires { ⌜ (self .blocks ≤ 65536) × (k < 18) ⌝ }
+        requires { ⌜ (self .blocks ≤ 65536) × (k < 18) × (self .extra ≤ 16777216) ⌝ }
         ensures { λ r. ⌜ r ≡ getD (scratchWidths self) k 0 ⌝ }
     {
         if k < 4 {
@@ -146,12 +150,15 @@ impl Layout {
         if k < 16 {
             return self.blocks;
         }
-        2 * self.blocks
+        if k < 17 {
+            return 2 * self.blocks;
+        }
+        2 * self.blocks + self.extra
     }
 
     // Where cell k of scratch begins.
     pub fn scratch_start(self, k: usize) -> usize
-        requires { ⌜ (self .instructions ≤ 65536) × (self .blocks ≤ 65536) × (self .words ≤ 1024) × (k < scratchCells self) ⌝ }
+        requires { ⌜ (self .instructions ≤ 65536) × (self .blocks ≤ 65536) × (self .words ≤ 1024) × (k < scratchCells self) × (self .extra ≤ 16777216) ⌝ }
         ensures { λ r. ⌜ r ≡ total (take k (scratchWidths self)) ⌝ }
     {
         if k < 4 {
@@ -163,7 +170,7 @@ impl Layout {
         if k < 18 {
             return 4 * self.instructions + 12 * self.blocks + (k - 16) * (2 * self.blocks);
         }
-        4 * self.instructions + 16 * self.blocks + (k - 18) * self.words
+        4 * self.instructions + 16 * self.blocks + self.extra + (k - 18) * self.words
     }
 
     // Where cell k of the sets buffer begins.

@@ -8,6 +8,7 @@ use lib.Seq.{getD-set-same, getD-set-other, getD-drop}
 use Rattle.dataflow.specs.Search.{Frame}
 use Rattle.memory.specs.Cells.{Mem, cell, word}
 use Rattle.memory.specs.Names.{stackBlockCell, stackEdgeCell, successorCell, successorCountCell}
+use Rattle.memory.specs.Scratch.{edgeWords}
 use Rattle.memory.specs.declared.layout.Layout.{Layout}
 use Rattle.edges.specs.Edges.{Holds, Held}
 use Rattle.edges.proofs.EdgeLaws as edges
@@ -84,6 +85,7 @@ pub rest-below : {next : ℕ → List ℕ} {y : Layout} {m : Mem} → Holds next
 rest-below {next} h b e lt i g =
     rw (getD-drop e (next b) i 0) (h .below b (e + i) lt (omega (arith, rw (length-drop e (next b)) at g)))
 
--- an edge that is counted is one of two
-pub edge-few : {y : Layout} {m : Mem} {top b e : ℕ} → Facing y m top b e → e < 2
-edge-few {b} f = omega (arith, f .counted, f .held .1 .counted b (f .inside), f .held .1 .few b (f .inside))
+-- an edge that is counted is one of the edges that have words
+pub edge-few : {y : Layout} {m : Mem} {top b e : ℕ} → Facing y m top b e → e < edgeWords y
+edge-few {y} {b} f =
+    omega (arith, f .counted, f .held .1 .counted b (f .inside), edges.edges-within (f .held .0) b (y .blocks) (f .inside), f .held .1 .few)

@@ -22,7 +22,7 @@ use Rattle.order.specs.declared.Ordered.{Ordered}
 use Rattle.order.specs.declared.Ordered.the-variants.{Ok, Over}
 use Rattle.order.specs.Postorder.{searchedFrom, searchCharges, chargedIn, Searched}
 use Rattle.order.specs.Turns.{stackOf, searchOf, turned, Good, Kept, Begun, Turned, Resumed}
-use Rattle.order.proofs.SearchEnd.{search-step, search-stop, turns-step, turns-stop, turn-left, few-turns}
+use Rattle.order.proofs.SearchEnd.{search-step, search-stop, turns-step, turns-stop, turn-left, all-turns}
 use Rattle.order.proofs.FrameLaws.{frameAt, frames-none, stack-top, holds-kept, kept-trans, rest-below}
 use Rattle.order.proofs.TurnLaws.{good-room}
 
@@ -166,11 +166,11 @@ module _ (y : Layout) (l : Limits) (b : FlowBudget) (m₀ : Mem) where
     pub going-empty : top ≡ 0 → Resumed y l b m₀ m (Ok len left)
     going-empty e = going-end (λ next holds. rw e (frames-none next _ _))
 
-    -- three turns a block were taken
-    pub going-full : 3 * y .blocks ≤ turn → Resumed y l b m₀ m (Ok len left)
+    -- a turn for each block and each edge was taken
+    pub going-full : 3 * y .blocks + y .extra ≤ turn → Resumed y l b m₀ m (Ok len left)
     going-full h =
         going-end (λ next holds. none-left next (searchOf next m top len)
-        (omega (arith, g .way next holds .fuel, few-turns next (y .blocks) (holds .few))))
+        (omega (arith, g .way next holds .fuel, all-turns next (y .blocks), holds .few)))
 
 -- ---- the whole: the first charge crosses the limit, or the search goes on from words that hold the same graph
 pub searched-over : (y : Layout) (l : Limits) (b : FlowBudget) (m : Mem) (left : FlowBudget)

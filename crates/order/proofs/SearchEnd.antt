@@ -1,5 +1,5 @@
 -- The depth-first search, turn by turn, and that at most three turns a block are taken. Assumes nothing.
-use mathlib.Core.Path.{_≡_, refl, sym, ap, _∙_}
+use mathlib.Core.Path.{_≡_, refl, sym, ap, subst, _∙_}
 use mathlib.Core.List.{List, [], _∷_}
 use Prim.Native.Nat.{ℕ, zero, suc, _+_, _*_, _≤_, _<_}
 use native.Mathlib.Omega.{arith}
@@ -8,6 +8,7 @@ use lib.ListN.{length, getD}
 use Rattle.dataflow.specs.Lists.{tabulate, sum}
 use Rattle.dataflow.specs.Search.{Frame, Search, advance, onTop, search, turns, allTurns}
 use Rattle.dataflow.proofs.Search.{turnsLeft, advance-left}
+use Rattle.edges.specs.Edges.{edgesBefore}
 use Rattle.order.specs.Turns.{turned}
 
 module _ (next : ℕ → List ℕ) where
@@ -40,12 +41,13 @@ module _ (next : ℕ → List ℕ) where
       turns-stop zero = refl
       turns-stop (suc n) = rw e refl
 
-  few-from : (k n : ℕ) → ((i : ℕ) → i < n → length (next (k + i)) ≤ 2) → sum (tabulate k n (λ b. suc (length (next b)))) ≤ 3 * n
-  few-from k zero h = omega arith
-  few-from k (suc n) h =
-      let a : length (next k) ≤ 2 = rw (add-zero k) at (h 0 (omega arith)) in
-      omega (arith, few-from (suc k) n (λ i lt. rw (add-suc k i, ← suc-add k i) at (h (suc i) (omega arith))))
+  -- a turn for each block and one for each of its edges
+  turns-from : (k n : ℕ) → edgesBefore next k + sum (tabulate k n (λ b. suc (length (next b)))) ≡ edgesBefore next (k + n) + n
+  turns-from k zero = rw (add-zero k) (omega arith)
+  turns-from k (suc n) =
+      let e : suc k + n ≡ k + suc n = omega arith in
+      let r = subst (λ (i : ℕ). edgesBefore next (suc k) + sum (tabulate (suc k) n (λ b. suc (length (next b)))) ≡ edgesBefore next i + n) e (turns-from (suc k) n) in
+      omega (arith, r)
 
-  -- three turns a block are enough where a block has two edges at most
-  pub few-turns : (n : ℕ) → ((b : ℕ) → b < n → length (next b) ≤ 2) → allTurns next n ≤ 3 * n
-  few-turns n h = few-from 0 n (λ i lt. rw (zero-add i) (h i lt))
+  pub all-turns : (n : ℕ) → allTurns next n ≡ edgesBefore next n + n
+  all-turns n = let e : 0 + n ≡ n = omega arith in omega (arith, rw e at (turns-from 0 n))

@@ -20,6 +20,8 @@ use Rattle.edges.specs.Edges.{marked, Holds}
 use Rattle.edges.proofs.EdgeLaws.{marked-yes}
 use Rattle.order.specs.Turns.{marks, framesOf, stackOf, searchOf, turned, Good, Kept, Begun, Facing, Entered, Turned, Looked}
 use Rattle.order.proofs.Marks.{marks-fit, marks-set, marks-miss, marks-none, map-replicate}
+use Rattle.memory.specs.Edges.{successorAt}
+use Rattle.memory.proofs.EdgeLaws.{successor-kept}
 use Rattle.order.proofs.FrameLaws.{frames-none, frames-push, frames-next, stack-top, kept-trans}
 
 -- ---- searches by their parts
@@ -180,13 +182,20 @@ module _ (y : Layout) (m : Mem) (z : Sized (scratchWidths y) m) where
 
     -- whatever is written to the frame's edge, the edge leads to a block, and the marks stay
     module _ (v : ℕ) (m₁ : Mem) (e : m₁ ≡ store m 14 (top - 1) v) where
-      pub lead-below : word m₁ 16 (2 * block + edge) < y .blocks
+      pub lead-below : successorAt m₁ block edge < y .blocks
       lead-below =
-          rw (e, cell-store-other m 14 (set (cell m 14) (top - 1) v) 16 (λ q. omega arith), f .held .1 .stored block edge (f .inside) there)
+          rw (
+            e,
+            successor-kept m (store m 14 (top - 1) v) (cell-store-other m 14 _ 7 (λ q. omega arith)) (cell-store-other m 14 _ 16 (λ q. omega arith)) block edge,
+            f .held .1 .stored block edge (f .inside) there,
+          )
           (f .held .1 .below block edge (f .inside) there)
         where
           there : edge < length (f .held .0 block)
           there = omega (arith, f .counted, f .held .1 .counted block (f .inside))
+
+      pub moved-counted : edge < word m₁ 7 block
+      moved-counted = rw (e, cell-store-other m 14 (set (cell m 14) (top - 1) v) 7 (λ q. omega arith)) (f .counted)
 
       pub moved-marks : marks (cell m₁ 15) ≡ marks (cell m 15)
       moved-marks = rw e (ap marks (cell-store-other m 14 (set (cell m 14) (top - 1) v) 15 (λ q. omega arith)))
@@ -205,12 +214,12 @@ module _ (y : Layout) (m : Mem) (z : Sized (scratchWidths y) m) where
         ∙ rw (n, ← f .atBlock) refl
 
     -- where it leads
-    leads : (next : ℕ → List ℕ) → Holds next y m → word (moved m top edge) 16 (2 * block + edge) ≡ getD (next block) edge 0
+    leads : (next : ℕ → List ℕ) → Holds next y m → successorAt (moved m top edge) block edge ≡ getD (next block) edge 0
     leads next holds =
-        ap (λ (x : List ℕ). getD x (2 * block + edge) 0) (moved-other 16 (λ q. omega arith))
+        successor-kept m (moved m top edge) (moved-other 7 (λ q. omega arith)) (moved-other 16 (λ q. omega arith)) block edge
         ∙ holds .stored block edge (f .inside) (omega (arith, f .counted, holds .counted block (f .inside)))
 
-    turned-look : (m′ : Mem) (to top′ : ℕ) → to ≡ word (moved m top edge) 16 (2 * block + edge) → Entered y (moved m top edge) m′ to top top′
+    turned-look : (m′ : Mem) (to top′ : ℕ) → to ≡ successorAt (moved m top edge) block edge → Entered y (moved m top edge) m′ to top top′
         → Looked y m m′ top top′
     turned-look m′ to top′ et r len g = record {
       turns = λ next holds.
@@ -237,10 +246,10 @@ module _ (y : Layout) (m : Mem) (z : Sized (scratchWidths y) m) where
     }
 
     -- by the words that the code has read
-    pub looked : (m₁ m′ : Mem) (to top′ : ℕ) → m₁ ≡ moved m top edge → to ≡ word m₁ 16 (2 * block + edge)
+    pub looked : (m₁ m′ : Mem) (to top′ : ℕ) → m₁ ≡ moved m top edge → to ≡ successorAt m₁ block edge
         → Entered y m₁ m′ to top top′ → Looked y m m′ top top′
     looked m₁ m′ to top′ e et r =
-        turned-look m′ to top′ (et ∙ ap (λ (x : Mem). word x 16 (2 * block + edge)) e)
+        turned-look m′ to top′ (et ∙ ap (λ (x : Mem). successorAt x block edge) e)
         (subst (λ (x : Mem). Entered y x m′ to top top′) e r)
 
 -- ---- `start`

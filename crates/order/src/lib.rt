@@ -58,12 +58,12 @@ fn clear_visited(s: &mut [u64], y: Layout)
     memory::scratch::clear(s, y, layout::VISITED);
 }
 
-// Turns until the stack is empty: one for each block and one for each edge, so at most three a block.
+// Turns until the stack is empty: one for each block and one for each edge.
 fn search(s: &mut [u64], y: Layout, limits: Limits, budget: FlowBudget) -> Ordered
     requires { ⌜ Room y (length (now s)) × (0 < y .blocks) × Held y (scratch y (now s)) × Begun y (scratch y (now s)) ⌝ }
     ensures { λ r. ⌜ Resumed y limits budget (scratch y (now (s .entry))) (scratch y (now (s .exit))) r ⌝ }
 {
-    let bound = 3 * y.blocks;
+    let bound = 3 * y.blocks + y.extra;
     let mut left = budget;
     let mut top = 1;
     let mut len = 0;
@@ -111,7 +111,7 @@ fn look(s: &mut [u64], y: Layout, block: usize, edge: usize, top: usize) -> usiz
     ensures { λ r. ⌜ Looked y (scratch y (now (s .entry))) (scratch y (now (s .exit))) top r ⌝ }
 {
     memory::scratch::put(s, y, layout::STACK_EDGE, top - 1, edge as u64 + 1);
-    let to = memory::scratch::get(s, y, layout::SUCCESSOR, 2 * block + edge) as usize;
+    let to = memory::edges::successor(s, y, block, edge) as usize;
     enter(s, y, to, top)
 }
 

@@ -75,8 +75,8 @@ module _ (s : List ℕ) (x : Script) (h : Sound s x) (n : ℕ) (lent : Lent) (bl
 
   -- the sizes of a sheet that passed
   pub small : (layoutOf x blocks .instructions ≤ 65536) × (layoutOf x blocks .blocks ≤ 65536) × (layoutOf x blocks .words ≤ 1024)
-      × (layoutOf x blocks .awaits ≤ 65536)
-  small = (h .few-code, omega (arith, few, h .few-code), omega (arith, h .few-slots), omega (arith, h .few-awaits, h .few-code))
+      × (layoutOf x blocks .awaits ≤ 65536) × (layoutOf x blocks .extra ≤ 16777216)
+  small = (h .few-code, omega (arith, few, h .few-code), omega (arith, h .few-slots), omega (arith, h .few-awaits, h .few-code), omega arith)
 
   module _ (e : shortOf (layoutOf x blocks) n lent ≡ false) where
     abbrev no-scratch : Bool
@@ -98,7 +98,7 @@ module _ (s : List ℕ) (x : Script) (h : Sound s x) (n : ℕ) (lent : Lent) (bl
     records-long = ltb-false (lent .records) blocks (or-no-right (no-scratch || no-sets) no-records e)
 
     pub has-room : Room (layoutOf x blocks) n
-    has-room = record { instructions = small .0; blocks = small .1; words = small .2; fits = scratch-long }
+    has-room = record { instructions = small .0; blocks = small .1; words = small .2; extra = omega arith; fits = scratch-long }
 
     pub has-sets : SetsRoom (layoutOf x blocks) (lent .sets)
     has-sets = record { blocks = small .1; words = small .2; awaits = small .3; fits = sets-long }
@@ -115,7 +115,7 @@ module _ (s : List ℕ) (x : Script) (h : Sound s x) (n : ℕ) (lent : Lent) (bl
 
 -- scratch has room for the marks
 pub marking-room : (s : List ℕ) (x : Script) → Sound s x → (n : ℕ) → 4 * x .count ≤ n → Room (marking x) n
-marking-room s x h n q = record { instructions = h .few-code; blocks = omega arith; words = omega arith; fits = omega arith }
+marking-room s x h n q = record { instructions = h .few-code; blocks = omega arith; words = omega arith; extra = omega arith; fits = omega arith }
 
 -- the charges of the first loop: one for each instruction
 pub first-charges : (s : List ℕ) (x : Script) → Sound s x → (l : Limits) (b : FlowBudget)

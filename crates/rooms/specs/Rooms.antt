@@ -27,7 +27,7 @@ use Rattle.rooms.specs.declared.Staged.the-variants.{Ok, Refused}
 
 -- document 01: w is slots / 64 rounded up; A counts the awaits, reached or not
 abbrev pub layoutOf : Script → ℕ → Layout
-layoutOf x blocks = record { instructions = x .count; blocks = blocks; words = (x .slots + 63) / 64; awaits = x .awaits }
+layoutOf x blocks = record { instructions = x .count; blocks = blocks; words = (x .slots + 63) / 64; awaits = x .awaits; extra = 0 }
 
 -- document 01, row 10: a lent buffer is too short. n is how many words scratch has.
 abbrev pub shortOf : Layout → ℕ → Lent → Bool

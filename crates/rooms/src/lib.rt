@@ -39,12 +39,13 @@ fn layout(script: Script, blocks: usize) -> Layout
         blocks: blocks,
         words: (script.slots + 63) / 64,
         awaits: script.awaits,
+        extra: 0,
     }
 }
 
 // Whether one of the lent buffers is too short.
 fn short(y: Layout, scratch: usize, lent: Lent) -> bool
-    requires { ⌜ (y .instructions ≤ 65536) × (y .blocks ≤ 65536) × (y .words ≤ 1024) × (y .awaits ≤ 65536) ⌝ }
+    requires { ⌜ (y .instructions ≤ 65536) × (y .blocks ≤ 65536) × (y .words ≤ 1024) × (y .awaits ≤ 65536) × (y .extra ≤ 16777216) ⌝ }
     ensures { λ r. ⌜ r ≡ shortOf y scratch lent ⌝ }
 {
     (scratch < y.scratch_words()) | (lent.sets < y.sets_words()) | (lent.records < y.blocks)
@@ -52,7 +53,7 @@ fn short(y: Layout, scratch: usize, lent: Lent) -> bool
 
 // 11, then 10.
 fn rooms(y: Layout, scratch: usize, lent: Lent, limits: Limits, budget: FlowBudget) -> Staged
-    requires { ⌜ (y .instructions ≤ 65536) × (y .blocks ≤ 65536) × (y .words ≤ 1024) × (y .awaits ≤ 65536) ⌝ }
+    requires { ⌜ (y .instructions ≤ 65536) × (y .blocks ≤ 65536) × (y .words ≤ 1024) × (y .awaits ≤ 65536) × (y .extra ≤ 16777216) ⌝ }
     ensures { λ r. ⌜ r ≡ roomsOf limits y scratch lent budget ⌝ }
 {
     if limits.state < budget::state_bytes(y.blocks, y.words) {
@@ -96,6 +97,7 @@ fn number_blocks(s: &mut [u64], script: Script) -> usize
             blocks: 0,
             words: 0,
             awaits: 0,
+            extra: 0,
         },
     )
 }

@@ -13,6 +13,7 @@ use Rattle.budget.specs.declared.Charged.{Charged}
 use Rattle.budget.specs.declared.Charged.the-variants.{Ok, Over}
 use Rattle.budget.specs.Budget.{charged}
 use Rattle.budget.proofs.BudgetLaws.{met-one}
+use Rattle.memory.specs.Scratch.{edgeWords}
 use Rattle.memory.specs.Cells.{Mem, cell, word, store, storeCell}
 use Rattle.memory.specs.Names.{queuedCell, ringCell}
 use Rattle.memory.specs.Scratch.{scratchWidths}
@@ -229,7 +230,8 @@ module _ (d : Direction) (y : Layout) (l : Limits) (s₀ : At) (b₀ : FlowBudge
     }
 
 -- ---- the product of a visit's charge fits
-pub charge-small : (blocks words edges : ℕ) → blocks ≤ 65536 → words ≤ 1024 → edges ≤ 2 * blocks → words * (edges + 3) ≤ 1024 * 131075
-charge-small blocks words edges h k e =
-    let g : edges + 3 ≤ 131075 = omega arith in
+pub charge-small : (y : Layout) (edges : ℕ) → y .blocks ≤ 65536 → y .words ≤ 1024 → y .extra ≤ 16777216 → edges ≤ edgeWords y
+    → y .words * (edges + 3) ≤ 1024 * 16908291
+charge-small y edges h k x e =
+    let g : edges + 3 ≤ 16908291 = omega arith in
     mul-le-mul k g

@@ -4,15 +4,19 @@ use mathlib.Core.Logic.{_≢_}
 use mathlib.Core.List.{List, [], _∷_}
 use Prim.Native.Nat.{ℕ, zero, suc, _+_, _*_, _-_, _≤_, _<_}
 use native.Mathlib.Omega.{arith}
+use lib.Dec.{ltb}
 use lib.ListN.{getD}
+use Rattle.dataflow.specs.Lists.{pick}
+use Rattle.memory.specs.Edges.{placeOf}
 use Rattle.bitset.specs.Below.{AllBelow}
-use Rattle.memory.specs.Cells.{Mem, cell, storeCell}
+use borrow.Author.Tests.{lt-ltb}
+use Rattle.memory.specs.Cells.{Mem, cell, word, storeCell}
 use Rattle.memory.specs.Names.{successorCell, successorCountCell, firstEdgeCell, nextEdgeCell, predecessorCountCell}
 use Rattle.memory.specs.declared.layout.Layout.{Layout}
 use Rattle.memory.proofs.CellLaws.{cell-store-other}
 use Rattle.transfer.specs.declared.direction.Side.{Side}
 use Rattle.transfer.specs.declared.direction.Side.the-variants.{Successors, Predecessors}
-use Rattle.transfer.specs.Neighbors.{countOf, firstOf, nextOf, endOf, edgesFrom, neighborsFrom, neighbors, Behind, Connected}
+use Rattle.transfer.specs.Neighbors.{countOf, firstOf, nextOf, endOf, edgesFrom, neighborsFrom, neighbors, There, AllThere, Behind, Connected}
 
 -- ---- the cells of edges are the same
 pub record SameEdges (m m′ : Mem) : Type 0 where
@@ -55,17 +59,18 @@ module _ {m m′ : Mem} (s : SameEdges m m′) where
 
   -- its first edge
   pub first-kept : (side : Side) (b : ℕ) → firstOf side m′ b ≡ firstOf side m b
-  first-kept Successors b = refl
+  first-kept Successors b =
+      ap₂ (λ (c w : List ℕ). pick (ltb 2 (getD c b 0)) (4294967296 + getD w (2 * b) 0) (2 * b)) (s .successorCounts) (s .successors)
   first-kept Predecessors b = ap (λ (ws : List ℕ). getD ws b 0) (s .firstEdges)
 
   -- the edge behind
   pub next-kept : (side : Side) (e : ℕ) → nextOf side m′ e ≡ nextOf side m e
   next-kept Successors e = refl
-  next-kept Predecessors e = ap (λ (ws : List ℕ). getD ws e 0) (s .nextEdges)
+  next-kept Predecessors e = ap (λ (ws : List ℕ). getD ws (placeOf e) 0) (s .nextEdges)
 
   -- where an edge leads
   pub end-kept : (side : Side) (e : ℕ) → endOf side m′ e ≡ endOf side m e
-  end-kept Successors e = ap (λ (ws : List ℕ). getD ws e 0) (s .successors)
+  end-kept Successors e = ap (λ (ws : List ℕ). pick (ltb e 4294967296) (getD ws e 0) (e - 4294967296)) (s .successors)
   end-kept Predecessors e = refl
 
   -- n edges in a row
@@ -105,6 +110,20 @@ module _ {m m′ : Mem} (s : SameEdges m m′) where
     few = λ side b h. rw (count-kept side b) (c .few side b h);
   }
 
+-- the first of some edges is there
+first-there : (y : Layout) (side : Side) (m : Mem) (n e : ℕ) → 0 < n → AllThere y side (edgesFrom side m n e) → There y side e
+unfolding edgesFrom
+first-there y side m zero e h a = absurd (omega arith)
+first-there y side m (suc n) e h a = a .0
+
+-- the first of more than two successors is a block
+pub first-small : {y : Layout} {m : Mem} → Connected y m → (b : ℕ) → b < y .blocks → 2 < word m successorCountCell b → word m successorCell (2 * b) < y .blocks
+first-small {y} {m} c b h many =
+    let t : There y Successors (firstOf Successors m b) =
+    first-there y Successors m (word m successorCountCell b) (firstOf Successors m b) (omega arith) (c .edges Successors b h) in
+    let e : firstOf Successors m b ≡ 4294967296 + word m successorCell (2 * b) = rw (lt-ltb 2 (word m successorCountCell b) many) refl in
+    omega (arith, t .1, e)
+
 -- no edges counted, no neighbors
 pub neighbors-none : (side : Side) (m : Mem) (b : ℕ) → countOf side m b ≡ 0 → neighbors side m b ≡ []
 unfolding neighborsFrom edgesFrom
@@ -129,7 +148,7 @@ module _ (side : Side) (m : Mem) (n k e : ℕ) where
 
 -- the edges that are left have their words, and lead to blocks
 pub record Walk (y : Layout) (side : Side) (m : Mem) (n k e : ℕ) : Type 0 where
-  pub edges : AllBelow (2 * y .blocks) (edgesFrom side m (n - k) e)
+  pub edges : AllThere y side (edgesFrom side m (n - k) e)
   pub ends : AllBelow (y .blocks) (neighborsFrom side m (n - k) e)
 
 -- before the first edge
@@ -141,7 +160,7 @@ walk-none {n = n} side b h p q c =
 
 module _ {y : Layout} {side : Side} {m : Mem} {n k e : ℕ} (h : k < n) (w : Walk y side m n k e) where
   -- the next edge and those behind it
-  next-edges : AllBelow (2 * y .blocks) (e ∷ edgesFrom side m (n - (k + 1)) (nextOf side m e))
+  next-edges : AllThere y side (e ∷ edgesFrom side m (n - (k + 1)) (nextOf side m e))
   next-edges = rw (edges-more side m n k e h) at (w .edges)
 
   -- and their ends
@@ -149,7 +168,7 @@ module _ {y : Layout} {side : Side} {m : Mem} {n k e : ℕ} (h : k < n) (w : Wal
   next-ends = rw (ends-more side m n k e h) at (w .ends)
 
   -- the next edge has its words
-  pub walk-edge : e < 2 * y .blocks
+  pub walk-edge : There y side e
   walk-edge = next-edges .0
 
   -- it leads to a block

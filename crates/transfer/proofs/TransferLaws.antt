@@ -16,7 +16,7 @@ use Rattle.memory.proofs.CellLaws.{cell-store-same, cell-store-other, word-cell
 use Rattle.transfer.specs.declared.direction.Direction.{Direction}
 use Rattle.transfer.specs.declared.direction.Direction.the-variants.{Initialization, Liveness}
 use Rattle.transfer.specs.declared.direction.Side.{Side}
-use Rattle.transfer.specs.Neighbors.{readsOf, countOf, firstOf, nextOf, endOf, neighborsFrom, Behind, Connected}
+use Rattle.transfer.specs.Neighbors.{There, readsOf, countOf, firstOf, nextOf, endOf, neighborsFrom, Behind, Connected}
 use Rattle.transfer.specs.Transfer.{runningRow, keptRow, entryOf, gatherOne, gatherAll, gathered, transferred, computed}
 use Rattle.transfer.proofs.NeighborLaws.{SameEdges, same-stored, end-kept, next-kept, ends-kept, behind-kept, neighbors-none}
 use Rattle.transfer.proofs.NeighborLaws.{ends-more, ends-over, Walk, walk-none, walk-edge, walk-end, walk-more, walk-behind, behind-first}
@@ -109,7 +109,7 @@ module _ (d : Direction) (y : Layout) (m t : Mem) (side : Side) (n e₀ : ℕ) w
     pub same : m₁ ≡ storeCell m (runningRow d y) (cell m₁ (runningRow d y))
     pub rest : gatherAll d m t (neighborsFrom side m (n - k) (nextOf side m e)) (cell m₁ (runningRow d y))
         ≡ gatherAll d m t (neighborsFrom side m n (nextOf side m e₀)) (cell m (runningRow d y))
-    pub edge : e < 2 * y .blocks
+    pub edge : There y side e
     pub walk : Walk y side m n k (nextOf side m e)
 
 module _ {d : Direction} {y : Layout} {m t : Mem} {side : Side} {n e₀ : ℕ} where
@@ -125,7 +125,7 @@ module _ {d : Direction} {y : Layout} {m t : Mem} {side : Side} {n e₀ : ℕ} w
     gathering-edges = subst (SameEdges m) (sym (g .same)) (row-edges d y m (cell m₁ (runningRow d y)))
 
     -- the edge behind has its words
-    pub gathering-edge : k < n → {e′ : ℕ} → e′ ≡ nextOf side m₁ e → e′ < 2 * y .blocks
+    pub gathering-edge : k < n → {e′ : ℕ} → e′ ≡ nextOf side m₁ e → There y side e′
     gathering-edge h q = rw (q ∙ next-kept gathering-edges side e) (walk-edge h (g .walk))
 
     -- the block at its other end, as the words had it
@@ -232,7 +232,7 @@ module _ (d : Direction) {y : Layout} {m : Mem} (b : ℕ) (h : b < y .blocks) (c
     walk-first = walk-none (readsOf d) b h en ee c
 
     -- it has its words
-    pub first-edge : e < 2 * y .blocks
+    pub first-edge : There y (readsOf d) e
     first-edge = walk-edge (omega arith) walk-first
 
     -- it leads to a block

@@ -3,7 +3,7 @@ use native.Mathlib.Omega.{arith}
 use denote.Ref.{now}
 use borrow.Author.Needs.{needs}
 use Rattle.memory.specs.Scratch.{scratch}
-use Rattle.memory.proofs.ScratchLaws.{place-blocks, place-edges}
+use Rattle.memory.proofs.ScratchLaws.{place-blocks, place-successors}
 use Rattle.block_records.proofs.RecordLaws.{block-made}
 use Rattle.block_records.proofs.block_at.Statement.{statement}
 use Rattle.block_records.proofs.block_at.Tie as tie
@@ -34,7 +34,7 @@ mul-cut c = search needs
 cut-requires-5 : tie.Need-cut-requires-5
 cut-requires-5 c κs =
     let at = c .before .before .before .before .before in
-    (at .pre .0, place-edges (at .args .y) 16 _ (omega arith) (omega arith) (omega arith))
+    (at .pre .0, place-successors (at .args .y) 16 _ (omega arith) (omega arith))
 
 mul-cut-2 : tie.Need-mul-cut-2
 mul-cut-2 c = search needs
@@ -45,7 +45,7 @@ add-cut c = search needs
 cut-requires-6 : tie.Need-cut-requires-6
 cut-requires-6 c κs =
     let at = c .before .before .before .before .before .before in
-    (at .pre .0, place-edges (at .args .y) 16 _ (omega arith) (omega arith) (omega arith))
+    (at .pre .0, place-successors (at .args .y) 16 _ (omega arith) (omega arith))
 
 returns : tie.Need-returns
 returns c =

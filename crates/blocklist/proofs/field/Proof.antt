@@ -4,7 +4,7 @@ use native.Mathlib.Omega.{arith}
 use denote.Ref.{now}
 use borrow.Author.Needs.{needs}
 use Rattle.memory.specs.Scratch.{scratch}
-use Rattle.memory.proofs.ScratchLaws.{place-blocks, place-edges}
+use Rattle.memory.proofs.ScratchLaws.{place-blocks, place-successors}
 use Rattle.blocklist.proofs.WordLaws.{field-first, field-successor}
 use Rattle.blocklist.proofs.field.Statement.{statement}
 use Rattle.blocklist.proofs.field.Tie as tie
@@ -31,7 +31,7 @@ add-get-2 c = search needs
 get-requires-2 : tie.Need-get-requires-2
 get-requires-2 c κs =
     let b = c .before .before in
-    (b .pre .0, place-edges (b .args .y) _ _ (omega arith) (omega arith) (omega arith))
+    (b .pre .0, place-successors (b .args .y) _ _ (omega arith) (omega arith))
 
 returns-2 : tie.Need-returns-2
 returns-2 c =

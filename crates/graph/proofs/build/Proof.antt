@@ -40,7 +40,7 @@ join-requires c κs =
     let r = b .pre .0 in
     let h = b .pre .2 in
     let a = b .args in (
-      record { instructions = r .instructions; blocks = r .blocks; words = r .words; fits = omega (arith, r .fits, g .kept .1) },
+      record { instructions = r .instructions; blocks = r .blocks; words = r .words; extra = r .extra; fits = omega (arith, r .fits, g .kept .1) },
       h .sound,
       h .fits .slots,
       join-held (now (a .sheet)) (a .script) (a .y) (a .limits) (a .budget) _ _ _ _ _ (g .ensures) _ (c .before .before .c .given .1) h,
@@ -56,7 +56,7 @@ reach-requires c κs =
     let h = b .pre .2 in
     let g = b₁ .blocks2 in
     let a = b .args in (
-      record { instructions = r .instructions; blocks = r .blocks; words = r .words; fits = omega (arith, r .fits, g .kept .1, j .kept .1) },
+      record { instructions = r .instructions; blocks = r .blocks; words = r .words; extra = r .extra; fits = omega (arith, r .fits, g .kept .1, j .kept .1) },
       reach-some (now (a .sheet)) (a .script) (a .y) (a .limits) (a .budget) _ _ _ _ _ (g .ensures) _ e h,
       reach-held (now (a .sheet)) (a .script) (a .y) (a .limits) (a .budget) _ _ _ _ _ (g .ensures) _ e h _ (j .ensures),
     )

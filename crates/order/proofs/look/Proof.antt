@@ -1,9 +1,9 @@
 -- `order::look` meets its contract: the frame's edge is passed, and what it leads to is entered. Assumes nothing.
 use native.Mathlib.Omega.{arith}
 use borrow.Author.Needs.{needs}
-use Rattle.memory.proofs.ScratchLaws.{place-blocks, place-edges, scratch-sized}
+use Rattle.memory.proofs.ScratchLaws.{place-blocks, scratch-sized}
 use Rattle.order.proofs.FrameLaws.{edge-few}
-use Rattle.order.proofs.TurnLaws.{look-room, moved-marks, lead-below, looked}
+use Rattle.order.proofs.TurnLaws.{look-room, moved-marks, moved-counted, lead-below, looked}
 use Rattle.order.proofs.look.Statement.{statement}
 use Rattle.order.proofs.look.Tie as tie
 
@@ -21,18 +21,12 @@ put-requires c κs =
       place-blocks _ _ _ (search needs) (search needs) (omega (arith, look-room _ _ (scratch-sized _ (p .0)) _ _ _ (p .1), p .1 .frames)),
     )
 
-mul-get : tie.Need-mul-get
-mul-get c = search needs
-
-add-get : tie.Need-add-get
-add-get c =
+successor-requires : tie.Need-successor-requires
+successor-requires c κs =
     let p = c .before .before .before .before .before .before .pre in
-    omega (arith, edge-few (p .1), p .1 .inside, p .0 .blocks)
-
-get-requires : tie.Need-get-requires
-get-requires c κs =
-    let p = c .before .before .before .before .before .before .pre in
-    (search needs, place-edges _ _ _ (search needs) (search needs) (omega (arith, edge-few (p .1), p .1 .inside)))
+    let e = c .before .before .before .put .ensures in
+    let z = scratch-sized _ (p .0) in
+    (search needs, p .1 .inside, moved-counted _ _ z _ _ _ (p .1) _ _ e, lead-below _ _ z _ _ _ (p .1) _ _ e)
 
 enter-requires : tie.Need-enter-requires
 enter-requires c κs =
@@ -40,7 +34,7 @@ enter-requires c κs =
     let e = c .before .before .before .before .before .put .ensures in
     let z = scratch-sized _ (p .0) in (
       search needs,
-      rw (c .before .get .ensures) (lead-below _ _ z _ _ _ (p .1) _ _ e),
+      rw (c .before .successor .ensures) (lead-below _ _ z _ _ _ (p .1) _ _ e),
       rw (moved-marks _ _ z _ _ _ (p .1) _ _ e) (p .1 .room),
     )
 
@@ -51,7 +45,7 @@ returns : tie.Need-returns
 returns c =
     let p = c .before .before .before .before .before .before .before .before .before .before .before .pre in
     let e = c .before .before .before .before .before .before .before .before .put .ensures in
-    looked _ _ (scratch-sized _ (p .0)) _ _ _ (p .1) _ _ _ _ e (c .before .before .before .before .get .ensures) (c .before .before .enter .ensures)
+    looked _ _ (scratch-sized _ (p .0)) _ _ _ (p .1) _ _ _ _ e (c .before .before .before .before .successor .ensures) (c .before .before .enter .ensures)
 
 pub look-spec : {M : Type 1} → statement M
 look-spec =
@@ -60,9 +54,7 @@ look-spec =
     sub-put
     add-put
     put-requires
-    mul-get
-    add-get
-    get-requires
+    successor-requires
     enter-requires
     same-length
     returns)

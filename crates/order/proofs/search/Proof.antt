@@ -23,10 +23,13 @@ abbrev μ-loop : tie.MeasureT-loop
 mul-bound : tie.Need-mul-bound Inv-loop μ-loop
 mul-bound c = search needs
 
+add-bound : tie.Need-add-bound Inv-loop μ-loop
+add-bound c = search needs
+
 loop-holds : tie.Need-loop-holds Inv-loop μ-loop
 loop-holds c =
-    let a = c .before .before .args in
-    let p = c .before .before .pre in
+    let a = c .before .before .before .args in
+    let p = c .before .before .before .pre in
     (search needs, refl, going-start (a .y) (a .limits) (a .budget) _ (p .1) (p .3))
 
 same-length : tie.Need-same-length Inv-loop μ-loop
@@ -34,8 +37,8 @@ same-length c = search needs
 
 returns : tie.Need-returns Inv-loop μ-loop
 returns c =
-    let a = c .before .before .before .before .before .args in
-    let p = c .before .before .before .before .before .pre in
+    let a = c .before .before .before .before .before .before .args in
+    let p = c .before .before .before .before .before .before .pre in
     let l = c .before .before .loop in
     let r : Room (a .y) (length (l .s)) = rw (l .inv .1) (p .0) in
     going-empty _ _ _ _ _ (scratch-sized _ r) _ _ _ _ (l .inv .2) (c .if1 .taken)
@@ -57,8 +60,8 @@ same-length-2 c = search needs
 
 returns-2 : tie.Need-returns-2 Inv-loop μ-loop
 returns-2 c =
-    let a = c .before .before .before .before .before .before .before .before .before .args in
-    let p = c .before .before .before .before .before .before .before .before .before .pre in
+    let a = c .before .before .before .before .before .before .before .before .before .before .args in
+    let p = c .before .before .before .before .before .before .before .before .before .before .pre in
     let l = c .before .before .before .before .before .before .loop in
     let t = c .before .enum-told .given in
     let r : Room (a .y) (length (l .s)) = rw (l .inv .1) (p .0) in
@@ -67,8 +70,8 @@ returns-2 c =
 
 advance-requires : tie.Need-advance-requires Inv-loop μ-loop
 advance-requires c κs =
-    let a = c .before .before .before .before .before .before .before .before .before .before .args in
-    let p = c .before .before .before .before .before .before .before .before .before .before .pre in
+    let a = c .before .before .before .before .before .before .before .before .before .before .before .args in
+    let p = c .before .before .before .before .before .before .before .before .before .before .before .pre in
     let l = c .before .before .before .before .before .before .before .loop in
     (search needs, search needs, held-kept _ _ (l .inv .2 .others) (a .y) (p .2), l .inv .2 .good)
 
@@ -80,8 +83,8 @@ loop-less c = search needs
 
 loop-again : tie.Need-loop-again Inv-loop μ-loop
 loop-again c =
-    let a = c .before .before .before .before .before .before .before .before .before .before .before .before .before .args in
-    let p = c .before .before .before .before .before .before .before .before .before .before .before .before .before .pre in
+    let a = c .before .before .before .before .before .before .before .before .before .before .before .before .before .before .args in
+    let p = c .before .before .before .before .before .before .before .before .before .before .before .before .before .before .pre in
     let l = c .before .before .before .before .before .before .before .before .before .before .loop in
     let q = c .before .before .before .before .before .before .before .charge .ensures in
     let r : Room (a .y) (length (l .s)) = rw (l .inv .1) (p .0) in (
@@ -96,8 +99,8 @@ same-length-3 c = search needs
 
 returns-3 : tie.Need-returns-3 Inv-loop μ-loop
 returns-3 c =
-    let a = c .before .before .before .before .args in
-    let p = c .before .before .before .before .pre in
+    let a = c .before .before .before .before .before .args in
+    let p = c .before .before .before .before .before .pre in
     let l = c .before .loop in
     let r : Room (a .y) (length (l .s)) = rw (l .inv .1) (p .0) in
     going-full _ _ _ _ _ (scratch-sized _ r) _ _ _ _ (l .inv .2) (search needs)
@@ -109,6 +112,7 @@ search-spec =
     Inv-loop
     μ-loop
     mul-bound
+    add-bound
     loop-holds
     same-length
     returns

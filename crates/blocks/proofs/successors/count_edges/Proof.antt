@@ -2,7 +2,7 @@
 use native.Mathlib.Omega.{arith}
 use borrow.Author.Needs.{needs}
 use Rattle.blocks.proofs.WordLaws.{counted-from}
-use Rattle.memory.proofs.ScratchLaws.{place-blocks, place-edges}
+use Rattle.memory.proofs.ScratchLaws.{place-blocks, place-successors}
 use Rattle.blocks.proofs.successors.count_edges.Statement.{statement}
 use Rattle.blocks.proofs.successors.count_edges.Tie as tie
 
@@ -17,7 +17,7 @@ mul-put c = search needs
 put-requires-2 : tie.Need-put-requires-2
 put-requires-2 c κs =
     let args = c .before .before .before .before .before .before .args in
-    (search needs, place-edges (args .y) 16 _ (omega arith) (omega arith) (omega arith))
+    (search needs, place-successors (args .y) 16 _ (omega arith) (omega arith))
 
 mul-put-2 : tie.Need-mul-put-2
 mul-put-2 c = search needs
@@ -28,7 +28,7 @@ add-put c = search needs
 put-requires-3 : tie.Need-put-requires-3
 put-requires-3 c κs =
     let args = c .before .before .before .before .before .before .before .before .before .before .args in
-    (search needs, place-edges (args .y) 16 _ (omega arith) (omega arith) (omega arith))
+    (search needs, place-successors (args .y) 16 _ (omega arith) (omega arith))
 
 same-length : tie.Need-same-length
 same-length c = search needs

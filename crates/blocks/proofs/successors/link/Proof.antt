@@ -7,7 +7,7 @@ use borrow.Author.Needs.{needs}
 use Rattle.memory.specs.Cells.{store}
 use Rattle.memory.specs.Names.{successorCell}
 use Rattle.memory.specs.Scratch.{scratch}
-use Rattle.memory.proofs.ScratchLaws.{place-instructions, place-edges}
+use Rattle.memory.proofs.ScratchLaws.{place-instructions, place-successors}
 use Rattle.blocks.proofs.successors.link.Statement.{statement}
 use Rattle.blocks.proofs.successors.link.Tie as tie
 
@@ -19,7 +19,7 @@ get-requires c κs =
 put-requires : tie.Need-put-requires
 put-requires c κs =
     let args = c .before .before .before .before .args in
-    (search needs, place-edges (args .y) 16 _ (omega arith) (omega arith) (omega arith))
+    (search needs, place-successors (args .y) 16 _ (omega arith) (omega arith))
 
 same-length : tie.Need-same-length
 same-length c = search needs

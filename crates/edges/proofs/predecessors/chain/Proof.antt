@@ -1,10 +1,11 @@
 -- `edges::predecessors::chain` meets its contract. Assumes nothing.
+use mathlib.Core.Path.{refl}
 use native.Mathlib.Omega.{arith}
 use denote.Ref.{now}
 use borrow.Author.Needs.{needs}
 use Rattle.memory.specs.Scratch.{scratch}
 use Rattle.edges.proofs.ChainLaws.{count-still, linked-from}
-use Rattle.memory.proofs.ScratchLaws.{place-blocks, place-edges}
+use Rattle.memory.proofs.ScratchLaws.{place-blocks, place-links}
 use Rattle.edges.proofs.predecessors.chain.Statement.{statement}
 use Rattle.edges.proofs.predecessors.chain.Tie as tie
 
@@ -14,7 +15,7 @@ get-requires c κs =
 
 put-requires : tie.Need-put-requires
 put-requires c κs =
-    (search needs, place-edges (c .before .before .before .before .args .y) _ _ (omega arith) (omega arith) (omega arith))
+    (search needs, place-links (c .before .before .before .before .args .y) _ _ refl (omega arith))
 
 put-requires-2 : tie.Need-put-requires-2
 put-requires-2 c κs =

@@ -1,7 +1,7 @@
 -- `edges::reachability::push_successors` meets its contract. Assumes nothing.
 use mathlib.Core.List.{List}
 use mathlib.Core.Path.{_≡_, refl, sym, _∙_, ap}
-use Prim.Native.Nat.{ℕ, _-_, _≤_}
+use Prim.Native.Nat.{ℕ, _-_, _≤_, _<_}
 use native.Mathlib.Omega.{arith}
 use lib.ListN.{length, replicate}
 use borrow.Author.Needs.{needs}
@@ -10,11 +10,14 @@ use Rattle.budget.specs.declared.Charged.the-variants.{Ok}
 use Rattle.dataflow.specs.Search.{Sweep}
 use Rattle.edges.specs.Edges.{Holds}
 use Rattle.edges.specs.Stack.{Sweeps, OnlySearch}
+use Rattle.memory.specs.Cells.{word}
+use Rattle.memory.specs.Names.{successorCountCell}
 use Rattle.memory.specs.Scratch.{scratch}
 use Rattle.budget.proofs.BudgetLaws.{charged-none, ones-more}
-use Rattle.edges.proofs.StackLaws.{search-none, search-more}
+use Rattle.edges.proofs.StackLaws.{search-none, search-more, search-holds}
+use Rattle.edges.proofs.EdgeLaws.{successor-there}
 use Rattle.edges.proofs.SweepLaws.{Adding, adding-none, adding-more, successor-at, advanced-over, advanced-all}
-use Rattle.memory.proofs.ScratchLaws.{place-blocks, place-edges}
+use Rattle.memory.proofs.ScratchLaws.{place-blocks}
 use Rattle.edges.specs.declared.reachability.Pushed.the-variants.{Over}
 use Rattle.edges.proofs.reachability.push_successors.Statement.{statement}
 use Rattle.edges.proofs.reachability.push_successors.Tie as tie
@@ -63,29 +66,17 @@ returns c =
     advanced-over (pre .1) (get .ensures) (l .inv .3) (l .inv .2) (loop-test .taken) (charge .ensures) (enum-told .given .1)
     (ap Over (c .budget .ensures))
 
-mul-get : tie.Need-mul-get Inv-loop μ-loop
-mul-get c = search needs
-
-add-get : tie.Need-add-get Inv-loop μ-loop
-add-get c =
+successor-requires : tie.Need-successor-requires Inv-loop μ-loop
+successor-requires c κs =
     let pre = c .before .before .before .before .before .before .before .before .before .before .pre in
     let a = c .before .before .before .before .before .before .before .before .before .before .args in
     let get = c .before .before .before .before .before .before .before .get in
+    let l = c .before .before .before .before .before .before .loop in
     let loop-test = c .before .before .before .before .before .loop-test in
-    let h = pre .2 .1 in
-    omega (arith, loop-test .taken, get .ensures, h .counted (a .block) (pre .1), h .few (a .block) (pre .1))
-
-get-requires-2 : tie.Need-get-requires-2 Inv-loop μ-loop
-get-requires-2 c κs =
-    let pre = c .before .before .before .before .before .before .before .before .before .before .pre in
-    let a = c .before .before .before .before .before .before .before .before .before .before .args in
-    let get = c .before .before .before .before .before .before .before .get in
-    let loop-test = c .before .before .before .before .before .loop-test in
-    let h = pre .2 .1 in (
-      search needs,
-      place-edges (a .y) _ _ (omega arith) (omega arith)
-          (omega (arith, loop-test .taken, get .ensures, h .counted (a .block) (pre .1), h .few (a .block) (pre .1))),
-    )
+    let h = search-holds (l .inv .2) (pre .2 .1) in
+    let there : l .k < word (scratch (a .y) (l .s)) successorCountCell (a .block) =
+    omega (arith, loop-test .taken, get .ensures, h .counted (a .block) (pre .1), pre .2 .1 .counted (a .block) (pre .1)) in
+    (search needs, pre .1, there, successor-there h (a .block) (l .k) (pre .1) there)
 
 push-requires : tie.Need-push-requires Inv-loop μ-loop
 push-requires c κs =
@@ -93,11 +84,11 @@ push-requires c κs =
     let get = c .before .before .before .before .before .before .before .before .before .get in
     let l = c .before .before .before .before .before .before .before .before .loop in
     let loop-test = c .before .before .before .before .before .before .before .loop-test in
-    let get2 = c .before .get2 in
+    let successor = c .before .successor in
     let h = pre .2 in
     let s = pre .3 in
     let a = l .inv .4 (h .0) (h .1) (s .0) (s .1) in
-    (search needs, successor-at (pre .1) (h .1) (l .inv .2) (get .ensures) (loop-test .taken) (get2 .ensures) .2, (a .at, a .sweeps))
+    (search needs, successor-at (pre .1) (h .1) (l .inv .2) (get .ensures) (loop-test .taken) (successor .ensures) .2, (a .at, a .sweeps))
 
 add-k : tie.Need-add-k Inv-loop μ-loop
 add-k c = search needs
@@ -113,14 +104,14 @@ loop-again c =
     let loop-test = c .before .before .before .before .before .before .before .before .before .before .loop-test in
     let charge = c .before .before .before .before .before .before .before .before .before .charge in
     let met = c .before .before .before .before .before .before .before .c in
-    let get2 = c .before .before .before .before .get2 in
+    let successor = c .before .before .before .before .successor in
     let push = c .before .before .push in (
       omega (arith, loop-test .taken),
       push .kept .0 ∙ l .inv .1,
       search-more (l .inv .2) (push .ensures .only),
       ones-more _ _ (l .k) (l .inv .3) ∙ sym (charge .ensures) ∙ met .given .1,
       λ next h r s.
-          let t = successor-at (pre .1) h (l .inv .2) (get .ensures) (loop-test .taken) (get2 .ensures) in
+          let t = successor-at (pre .1) h (l .inv .2) (get .ensures) (loop-test .taken) (successor .ensures) in
           adding-more (t .0) (t .1) (l .inv .4 next h r s) (push .ensures),
     )
 
@@ -149,9 +140,7 @@ push-successors-spec =
     budget-requires
     same-length
     returns
-    mul-get
-    add-get
-    get-requires-2
+    successor-requires
     push-requires
     add-k
     loop-less

@@ -6,7 +6,7 @@ use native.Mathlib.Omega.{arith}
 use denote.Ref.{now}
 use borrow.Author.Needs.{needs}
 use Rattle.budget.specs.Budget.{charged}
-use Rattle.memory.specs.Scratch.{scratch}
+use Rattle.memory.specs.Scratch.{edgeWords, scratch}
 use Rattle.transfer.specs.Neighbors.{countOf}
 use Rattle.transfer.specs.declared.direction.Side.{Side}
 use Rattle.solver.proofs.RunLaws.{charge-small}
@@ -30,16 +30,16 @@ mul-charge c =
     let a = c .before .before .before .args in
     let p = c .before .before .before .pre in
     let count = c .count in
-    let few : count .result ≤ 2 * a .y .blocks = rw (count .ensures) (p .2 .few (c .before .reads .result) (a .block) (p .1)) in
-    omega (arith, charge-small (a .y .blocks) (a .y .words) (count .result) (p .0 .blocks) (p .0 .words) few)
+    let few : count .result ≤ edgeWords (a .y) = rw (count .ensures) (p .2 .few (c .before .reads .result) (a .block) (p .1)) in
+    omega (arith, charge-small (a .y) (count .result) (p .0 .blocks) (p .0 .words) (p .0 .extra) few)
 
 add-charge-2 : tie.Need-add-charge-2
 add-charge-2 c =
     let a = c .before .before .before .args in
     let p = c .before .before .before .pre in
     let count = c .count in
-    let few : count .result ≤ 2 * a .y .blocks = rw (count .ensures) (p .2 .few (c .before .reads .result) (a .block) (p .1)) in
-    omega (arith, charge-small (a .y .blocks) (a .y .words) (count .result) (p .0 .blocks) (p .0 .words) few)
+    let few : count .result ≤ edgeWords (a .y) = rw (count .ensures) (p .2 .few (c .before .reads .result) (a .block) (p .1)) in
+    omega (arith, charge-small (a .y) (count .result) (p .0 .blocks) (p .0 .words) (p .0 .extra) few)
 
 charge-requires : tie.Need-charge-requires
 charge-requires c κs = search needs

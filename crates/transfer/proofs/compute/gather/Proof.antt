@@ -1,5 +1,8 @@
 -- `transfer::compute::gather` meets its contract: the row begins with the first neighbor, then the others are gathered. Assumes nothing.
+use mathlib.Core.Path.{sym, subst}
 use denote.Ref.{now}
+use Rattle.transfer.specs.declared.direction.Side.{Side}
+use Rattle.transfer.specs.Neighbors.{There}
 use borrow.Author.Needs.{needs}
 use Rattle.memory.specs.Scratch.{scratch}
 use Rattle.memory.specs.Sets.{sets}
@@ -45,8 +48,11 @@ end-requires c κs =
     let first = c .before .first in
     let a = c .before .before .before .before .before .before .before .before .before .args in
     let p = c .before .before .before .before .before .before .before .before .before .pre in
-    let e = reads .ensures in
-    (search needs, first-edge (a .d) (a .block) (p .2) (p .3) (rw e at (count .ensures)) (if1 .left) (rw e at (first .ensures)))
+    let e = reads .ensures in (
+      search needs,
+      subst (λ (x : Side). There (a .y) x (first .result)) (sym e)
+          (first-edge (a .d) (a .block) (p .2) (p .3) (rw e at (count .ensures)) (if1 .left) (rw e at (first .ensures))),
+    )
 
 begin-with-requires : tie.Need-begin-with-requires
 begin-with-requires c κs =

@@ -72,19 +72,22 @@ mul-result-9 c = search needs
 add-result-4 : tie.Need-add-result-4
 add-result-4 c = search needs
 
+add-result-5 : tie.Need-add-result-5
+add-result-5 c = search needs
+
 mul-result-10 : tie.Need-mul-result-10
 mul-result-10 c =
-    let b = c .before .before .before .before .before .before in
+    let b = c .before .before .before .before .before .before .before in
     omega (arith, mul-le-mul {n₁ = b .args .k - 18} {n₂ = 262148} (omega arith) (b .pre .2))
 
-add-result-5 : tie.Need-add-result-5
-add-result-5 c =
-    let b = c .before .before .before .before .before .before in
+add-result-6 : tie.Need-add-result-6
+add-result-6 c =
+    let b = c .before .before .before .before .before .before .before in
     omega (arith, mul-le-mul {n₁ = b .args .k - 18} {n₂ = 262148} (omega arith) (b .pre .2))
 
 returns-4 : tie.Need-returns-4
 returns-4 c =
-    let b = c .before .before .before .before .before .before in
+    let b = c .before .before .before .before .before .before .before in
     sym (start-row (b .args .self) (b .args .k) (record { low = omega arith; high = b .pre .3 }))
 
 pub scratch-start-spec : {M : Type 1} → statement M
@@ -107,6 +110,7 @@ scratch-start-spec =
     mul-result-8
     mul-result-9
     add-result-4
-    mul-result-10
     add-result-5
+    mul-result-10
+    add-result-6
     returns-4)

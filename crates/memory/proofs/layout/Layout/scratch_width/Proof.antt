@@ -2,7 +2,7 @@
 use mathlib.Core.Path.{sym}
 use native.Mathlib.Omega.{arith}
 use borrow.Author.Needs.{needs}
-use Rattle.memory.proofs.ScratchLaws.{width-instructions, width-blocks, width-edges}
+use Rattle.memory.proofs.ScratchLaws.{width-instructions, width-blocks, width-successors, width-links}
 use Rattle.memory.proofs.layout.Layout.scratch_width.Statement.{statement}
 use Rattle.memory.proofs.layout.Layout.scratch_width.Tie as tie
 
@@ -19,7 +19,19 @@ mul-result c = search needs
 
 returns-3 : tie.Need-returns-3
 returns-3 c =
-    sym (width-edges (c .before .before .before .args .self) (c .before .before .before .args .k) (omega arith) (omega arith))
+    let b = c .before .before .before .before in
+    sym (width-successors (b .args .self) (b .args .k) (omega arith))
+
+mul-result-2 : tie.Need-mul-result-2
+mul-result-2 c = search needs
+
+add-result : tie.Need-add-result
+add-result c = search needs
+
+returns-4 : tie.Need-returns-4
+returns-4 c =
+    let b = c .before .before .before .before .before in
+    sym (width-links (b .args .self) (b .args .k) (omega arith))
 
 pub scratch-width-spec : {M : Type 1} → statement M
-scratch-width-spec = tie.close (tie.spec returns returns-2 mul-result returns-3)
+scratch-width-spec = tie.close (tie.spec returns returns-2 mul-result returns-3 mul-result-2 add-result returns-4)

@@ -32,6 +32,14 @@ add-result-3 c =
     let b = c .before .before .before .before in
     omega (arith, mul-le-mul (b .pre .1) (b .pre .2))
 
+mul-result-5 : tie.Need-mul-result-5
+mul-result-5 c = search needs
+
+add-result-4 : tie.Need-add-result-4
+add-result-4 c =
+    let b = c .before .before .before .before .before in
+    omega (arith, mul-le-mul (b .pre .1) (b .pre .2))
+
 returns : tie.Need-returns
 returns c = search needs
 
@@ -46,4 +54,6 @@ scratch-words-spec =
     add-result-2
     mul-result-4
     add-result-3
+    mul-result-5
+    add-result-4
     returns)
