@@ -18,7 +18,7 @@ use Rattle.memory.specs.declared.layout.Layout.{Layout}
 use Rattle.memory.proofs.CellLaws.{cell-store-same, cell-store-other}
 use Rattle.sheet.specs.declared.script.Script.{Script}
 use Rattle.sheet.specs.Decode.{partsOf}
-use Rattle.script.specs.Script.{flowCode, parameterIn, hostIn}
+use Rattle.script.specs.Script.{flowCode, hostIn}
 use Rattle.awaits.specs.declared.Points.{Points}
 use Rattle.awaits.specs.declared.Points.the-variants.{Passed, Refused}
 use Rattle.answer.specs.Words.{Means}
@@ -68,45 +68,45 @@ room-before code start end pc pc₁ place next low q high room e w =
 
 -- ---- from an instruction on
 
-module _ (s : List ℕ) (end : ℕ) (g : ℕ → Bool) where
+module _ (s : List ℕ) (parameter : ℕ → Bool) (end : ℕ) (g : ℕ → Bool) where
   -- the set before instruction k
   abbrev pub liveFrom : ℕ → ℕ → Bool
-  liveFrom k i = liveAlong (program (flowCode (partsOf s)) (parameterIn (partsOf s))) i (g i) (range k (end - k))
+  liveFrom k i = liveAlong (program (flowCode (partsOf s)) parameter) i (g i) (range k (end - k))
 
   -- the awaits of the instructions from k to end
   abbrev pub pointsFrom : ℕ → List Point
-  pointsFrom k = awaitPoints (flowCode (partsOf s)) (parameterIn (partsOf s)) g (range k (end - k))
+  pointsFrom k = awaitPoints (flowCode (partsOf s)) parameter g (range k (end - k))
 
   module _ (k : ℕ) (h : k < end) where
     one-more : end - k ≡ suc (end - suc k)
     one-more = omega arith
 
-    live-first : (i : ℕ) → liveFrom k i ≡ liveTransfer (program (flowCode (partsOf s)) (parameterIn (partsOf s))) k i (liveFrom (suc k) i)
-    live-first i = ap (λ (n : ℕ). liveAlong (program (flowCode (partsOf s)) (parameterIn (partsOf s))) i (g i) (range k n)) one-more
+    live-first : (i : ℕ) → liveFrom k i ≡ liveTransfer (program (flowCode (partsOf s)) parameter) k i (liveFrom (suc k) i)
+    live-first i = ap (λ (n : ℕ). liveAlong (program (flowCode (partsOf s)) parameter) i (g i) (range k n)) one-more
 
     points-first : pointsFrom k ≡ pick (awaitAt (flowCode (partsOf s)) k)
         (record {
           instruction = k;
-          live = λ i. liveTransfer (program (flowCode (partsOf s)) (parameterIn (partsOf s))) k i (liveFrom (suc k) i);
+          live = λ i. liveTransfer (program (flowCode (partsOf s)) parameter) k i (liveFrom (suc k) i);
         } ∷ pointsFrom (suc k)) (pointsFrom (suc k))
     unfolding awaitPoints
-    points-first = ap (λ (n : ℕ). awaitPoints (flowCode (partsOf s)) (parameterIn (partsOf s)) g (range k n)) one-more
+    points-first = ap (λ (n : ℕ). awaitPoints (flowCode (partsOf s)) parameter g (range k n)) one-more
 
-module _ (s : List ℕ) (x : Script) (y : Layout) (l : Limits) (end : ℕ) (g : ℕ → Bool) where
+module _ (s : List ℕ) (parameter : ℕ → Bool) (x : Script) (y : Layout) (l : Limits) (end : ℕ) (g : ℕ → Bool) where
   -- their run
   abbrev pub runFrom : FlowBudget → ℕ → Checking
-  runFrom b k = awaitsRun (flowCode (partsOf s)) (parameterIn (partsOf s)) l (y .words) (x .slots) (hostIn (partsOf s)) g (range k (end - k)) b
+  runFrom b k = awaitsRun (flowCode (partsOf s)) parameter l (y .words) (x .slots) (hostIn (partsOf s)) g (range k (end - k)) b
 
   -- what it does at instruction k
   abbrev pub pointFrom : ℕ → FlowBudget → Checking
-  pointFrom k = pointRun (flowCode (partsOf s)) (parameterIn (partsOf s)) l (y .words) (x .slots) (hostIn (partsOf s)) k
-      (λ i. liveTransfer (program (flowCode (partsOf s)) (parameterIn (partsOf s))) k i (liveFrom s end g (suc k) i))
+  pointFrom k = pointRun (flowCode (partsOf s)) parameter l (y .words) (x .slots) (hostIn (partsOf s)) k
+      (λ i. liveTransfer (program (flowCode (partsOf s)) parameter) k i (liveFrom s parameter end g (suc k) i))
 
   run-first : (k : ℕ) → k < end → (b : FlowBudget) → runFrom b k ≡ andThen (runFrom b (suc k)) (pointFrom k)
   unfolding awaitsRun
   run-first k h b = ap
-      (λ (n : ℕ). awaitsRun (flowCode (partsOf s)) (parameterIn (partsOf s)) l (y .words) (x .slots) (hostIn (partsOf s)) g (range k n) b)
-      (one-more s end g k h)
+      (λ (n : ℕ). awaitsRun (flowCode (partsOf s)) parameter l (y .words) (x .slots) (hostIn (partsOf s)) g (range k n) b)
+      (one-more s parameter end g k h)
 
 -- ---- entries
 
@@ -145,11 +145,11 @@ before-stays t t′ base n ws false f k h = ap (λ (w : Mem). cell w k) f
 
 -- a row of m that stands for a set has become one for the set before pc, the run so far went on, and the facts of the awaits stand
 pub record Awaiting (s : List ℕ) (x : Script) (y : Layout) (l : Limits) (budget left : FlowBudget) (end pc place next : ℕ) (m m′ t t′ : Mem) : Type 0 where
-  pub run : (g : ℕ → Bool) → Means (y .words) (cell m (liveStateRow (y .blocks))) g → runFrom s x y l end g budget pc ≡ on left
-  pub row : (g : ℕ → Bool) → Means (y .words) (cell m (liveStateRow (y .blocks))) g
-      → Means (y .words) (cell m′ (liveStateRow (y .blocks))) (liveFrom s end g pc)
+  pub run : (parameter g : ℕ → Bool) → Means (y .words) (cell m (liveStateRow (y .blocks))) g → runFrom s parameter x y l end g budget pc ≡ on left
+  pub row : (parameter g : ℕ → Bool) → Means (y .words) (cell m (liveStateRow (y .blocks))) g
+      → Means (y .words) (cell m′ (liveStateRow (y .blocks))) (liveFrom s parameter end g pc)
   pub places : next + awaitsAmong (flowCode (partsOf s)) pc end ≡ place
-  pub entries : (g : ℕ → Bool) → Means (y .words) (cell m (liveStateRow (y .blocks))) g → Entries y t′ next (pointsFrom s end g pc)
+  pub entries : (parameter g : ℕ → Bool) → Means (y .words) (cell m (liveStateRow (y .blocks))) g → Entries y t′ next (pointsFrom s parameter end g pc)
   pub others : (k : ℕ) → (k ≡ liveStateRow (y .blocks) → ⊥) → cell m′ k ≡ cell m k
   pub other-sets : (k : ℕ) → k < 2 * y .blocks + next → cell t′ k ≡ cell t k
 
@@ -166,10 +166,10 @@ module _ {s : List ℕ} {x : Script} {y : Layout} {l : Limits} {budget : FlowBud
   awaiting-none =
       let e : end - end ≡ 0 = omega arith in
       record {
-        run = λ g h. rw e refl;
-        row = λ g h. rw e h;
+        run = λ parameter g h. rw e refl;
+        row = λ parameter g h. rw e h;
         places = rw e (omega arith);
-        entries = λ g h. rw e tt;
+        entries = λ parameter g h. rw e tt;
         others = λ k h. refl;
         other-sets = λ k h. refl;
       }
@@ -180,9 +180,9 @@ module _ {s : List ℕ} {x : Script} {y : Layout} {l : Limits} {budget : FlowBud
     awaits-passed {start} q =
         let b = subst (λ (k : ℕ). Awaiting s x y l budget left end k place next m m₁ t t₁) q a in
         record {
-          answer = λ g h. sym (b .run g h);
+          answer = λ parameter g h. sym (b .run parameter g h);
           places = λ n z e. let w : next ≡ n = cc in omega (arith, b .places);
-          entries = λ n z e g h. let w : next ≡ n = cc in subst (λ (k : ℕ). Entries y t₁ k (pointsFrom s end g start)) w (b .entries g h);
+          entries = λ n z e parameter g h. let w : next ≡ n = cc in subst (λ (k : ℕ). Entries y t₁ k (pointsFrom s parameter end g start)) w (b .entries parameter g h);
           others = b .others;
           other-sets = λ n z e k h. let w : next ≡ n = cc in b .other-sets k (omega arith);
         }
@@ -193,18 +193,18 @@ module _ {s : List ℕ} {x : Script} {y : Layout} {l : Limits} {budget : FlowBud
       behind = subst (λ (k : ℕ). Awaiting s x y l budget left end k place next m m₁ t t₁) q a
 
       -- the run comes to the answer of the instruction
-      run-more : (g : ℕ → Bool) → Means (y .words) (cell m (liveStateRow (y .blocks))) g → runFrom s x y l end g budget pc₁ ≡ pointsOf r
-      run-more g h =
-          run-first s x y l end g pc₁ (omega arith) budget
-          ∙ ap (λ (v : Checking). andThen v (pointFrom s x y l end g pc₁)) (behind .run g h)
-          ∙ sym (c .answer (liveFrom s end g (suc pc₁)) (behind .row g h))
+      run-more : (parameter g : ℕ → Bool) → Means (y .words) (cell m (liveStateRow (y .blocks))) g → runFrom s parameter x y l end g budget pc₁ ≡ pointsOf r
+      run-more parameter g h =
+          run-first s parameter x y l end g pc₁ (omega arith) budget
+          ∙ ap (λ (v : Checking). andThen v (pointFrom s parameter x y l end g pc₁)) (behind .run parameter g h)
+          ∙ sym (c .answer parameter (liveFrom s parameter end g (suc pc₁)) (behind .row parameter g h))
 
       -- the instruction is refused
       pub awaits-stopped : {start : ℕ} → start ≤ pc₁ → {u : Refusal} {z : FlowBudget} → r ≡ Refused u z
           → AwaitsChecked s x y l budget start end place m m₂ t t₂ r
       awaits-stopped {start} low e = record {
-        answer = λ g h. ap pointsOf e ∙ sym (stop-stays (runFrom s x y l end g budget) (pointFrom s x y l end g) end
-            (λ k lt. run-first s x y l end g k lt budget) start pc₁ low (omega arith) (run-more g h ∙ ap pointsOf e));
+        answer = λ parameter g h. ap pointsOf e ∙ sym (stop-stays (runFrom s parameter x y l end g budget) (pointFrom s parameter x y l end g) end
+            (λ k lt. run-first s parameter x y l end g k lt budget) start pc₁ low (omega arith) (run-more parameter g h ∙ ap pointsOf e));
         places = λ n v w. let o : _≡_ {A = ℕ} 0 1 = cc in absurd (omega arith);
         entries = λ n v w. let o : _≡_ {A = ℕ} 0 1 = cc in absurd (omega arith);
         others = λ k h. c .others k h ∙ a .others k h;
@@ -215,12 +215,12 @@ module _ {s : List ℕ} {x : Script} {y : Layout} {l : Limits} {budget : FlowBud
       pub awaiting-more : {n : ℕ} {paid : FlowBudget} → r ≡ Passed n paid → 2 * y .blocks + next ≤ length t₁
           → Awaiting s x y l budget paid end pc₁ place n m m₂ t t₂
       awaiting-more {n} {paid} e room = record {
-        run = λ g h. run-more g h ∙ ap pointsOf e;
-        row = λ g h i o. c .row n paid e (liveFrom s end g (suc pc₁)) (behind .row g h) i o ∙ sym (live-first s end g pc₁ (omega arith) i);
+        run = λ parameter g h. run-more parameter g h ∙ ap pointsOf e;
+        row = λ parameter g h i o. c .row n paid e parameter (liveFrom s parameter end g (suc pc₁)) (behind .row parameter g h) i o ∙ sym (live-first s parameter end g pc₁ (omega arith) i);
         places = omega (arith, c .places n paid e, behind .places, awaits-first (flowCode (partsOf s)) pc₁ end (omega arith));
-        entries = λ g h. subst (Entries y t₂ n) (sym (points-first s end g pc₁ (omega arith)))
+        entries = λ parameter g h. subst (Entries y t₂ n) (sym (points-first s parameter end g pc₁ (omega arith)))
             (entries-more y t₁ t₂ n next pc₁ (cell m₂ (liveStateRow (y .blocks))) _ _ (awaitAt (flowCode (partsOf s)) pc₁) room (c .places n paid e)
-            (c .entry n paid e) (c .row n paid e (liveFrom s end g (suc pc₁)) (behind .row g h)) (behind .entries g h));
+            (c .entry n paid e) (c .row n paid e parameter (liveFrom s parameter end g (suc pc₁)) (behind .row parameter g h)) (behind .entries parameter g h));
         others = λ k h. c .others k h ∙ a .others k h;
         other-sets = λ k h. before-stays t₁ t₂ (2 * y .blocks) n _ (awaitAt (flowCode (partsOf s)) pc₁) (c .entry n paid e) k h
             ∙ a .other-sets k (omega (arith, c .places n paid e));

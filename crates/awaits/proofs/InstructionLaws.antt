@@ -33,7 +33,7 @@ use Rattle.sheet.specs.Decode.{Parts, partsOf}
 use Rattle.bitset.specs.Below.{AllBelow}
 use Rattle.instructions.specs.Sets.{insertedAll}
 use Rattle.instructions.specs.Slots.{isHost}
-use Rattle.script.specs.Script.{flowCode, parameterIn, hostIn}
+use Rattle.script.specs.Script.{flowCode, hostIn}
 use Rattle.awaits.specs.declared.Points.{Points}
 use Rattle.awaits.specs.declared.Points.the-variants.{Refused}
 use Rattle.answer.specs.Words.{Means}
@@ -100,7 +100,7 @@ module _ (s : List ℕ) (x : Script) (y : Layout) (l : Limits) (b : FlowBudget) 
       → InstructionChecked s x y l b pc place m m t t r
   unfolding pointRun
   instruction-over z r f g = let q : r ≡ Refused WorkLimit z = g ∙ ap (λ (w : Charged). Refused WorkLimit (budgetOf w)) f in record {
-    answer = λ u h. ap pointsOf q ∙ sym (rw (charge-is ∙ f) refl);
+    answer = λ parameter u h. ap pointsOf q ∙ sym (rw (charge-is ∙ f) refl);
     row = λ n left v. let o : _≡_ {A = ℕ} 0 1 = cc in absurd (omega arith);
     places = λ n left v. let o : _≡_ {A = ℕ} 0 1 = cc in absurd (omega arith);
     entry = λ n left v. let o : _≡_ {A = ℕ} 0 1 = cc in absurd (omega arith);
@@ -125,11 +125,11 @@ module _ (s : List ℕ) (x : Script) (y : Layout) (l : Limits) (b : FlowBudget) 
         ∙ ap (insertedAll ins) (ap (λ (w : Mem). cell w k) e₁ ∙ cell-store-same m k _ lt))
 
     -- so it stands for the set before the instruction
-    live-before : (g : ℕ → Bool) → Means (y .words) (cell m (liveStateRow (y .blocks))) g
-        → Means (y .words) (cell m₂ (liveStateRow (y .blocks))) (λ i. liveTransfer (program (flowCode (partsOf s)) (parameterIn (partsOf s))) pc i (g i))
-    live-before g h = subst
-        (λ (ws : List ℕ). Means (y .words) ws (λ i. liveTransfer (program (flowCode (partsOf s)) (parameterIn (partsOf s))) pc i (g i))) (sym live-is)
-        (means-live (flowCode (partsOf s)) (parameterIn (partsOf s)) pc (y .words) (cell m (liveStateRow (y .blocks))) g outs
+    live-before : (parameter g : ℕ → Bool) → Means (y .words) (cell m (liveStateRow (y .blocks))) g
+        → Means (y .words) (cell m₂ (liveStateRow (y .blocks))) (λ i. liveTransfer (program (flowCode (partsOf s)) parameter) pc i (g i))
+    live-before parameter g h = subst
+        (λ (ws : List ℕ). Means (y .words) ws (λ i. liveTransfer (program (flowCode (partsOf s)) parameter) pc i (g i))) (sym live-is)
+        (means-live (flowCode (partsOf s)) parameter pc (y .words) (cell m (liveStateRow (y .blocks))) g outs
         (ap (λ (j : ℕ). length (cell m j)) (sym ek) ∙ wide) eo ob h ins ei ib)
 
     hosts-stay : 0 < y .awaits → Means (y .words) (cell m₂ (hostsRow (y .blocks))) (hostIn (partsOf s))
@@ -139,20 +139,20 @@ module _ (s : List ℕ) (x : Script) (y : Layout) (l : Limits) (b : FlowBudget) 
     module _ (hw : Words (y .words) (cell m₂ (hostsRow (y .blocks)))) (lw : Words (y .words) (cell m₂ (liveStateRow (y .blocks))))
         (kind : ℕ) (await : awaitAt (flowCode (partsOf s)) pc ≡ isAwait kind) (some : isAwait kind ≡ true → 0 < y .awaits) (t′ : Mem) (r : Points)
         (d : AwaitChecked (isAwait kind) y l (x .slots) paid pc place m₂ t t′ r) where
-      await-run : isAwait kind ≡ true → (g : ℕ → Bool) → Means (y .words) (cell m (liveStateRow (y .blocks))) g → awaitRows y l (x .slots) m₂ paid
-          ≡ awaitRun (flowCode (partsOf s)) (parameterIn (partsOf s)) l (y .words) (x .slots) (hostIn (partsOf s))
-          (λ i. liveTransfer (program (flowCode (partsOf s)) (parameterIn (partsOf s))) pc i (g i)) paid
-      await-run q g h = rows-run _ _ _ _ y l (x .slots) m₂ paid
-          (common-means (y .words) (x .slots) _ _ _ _ hw lw (hosts-stay (some q)) (live-before g h) (ok .slots)
+      await-run : isAwait kind ≡ true → (parameter g : ℕ → Bool) → Means (y .words) (cell m (liveStateRow (y .blocks))) g → awaitRows y l (x .slots) m₂ paid
+          ≡ awaitRun (flowCode (partsOf s)) parameter l (y .words) (x .slots) (hostIn (partsOf s))
+          (λ i. liveTransfer (program (flowCode (partsOf s)) parameter) pc i (g i)) paid
+      await-run q parameter g h = rows-run _ _ _ _ y l (x .slots) m₂ paid
+          (common-means (y .words) (x .slots) _ _ _ _ hw lw (hosts-stay (some q)) (live-before parameter g h) (ok .slots)
           (λ i o. omega (arith, host-below (partsOf s) i o, ok .sound .slots-are)))
 
       -- the charge is met, the row is changed, and an await is checked
       pub instruction-met : InstructionChecked s x y l b pc place m m₂ t t′ r
       unfolding pointRun
       instruction-met = record {
-        answer = λ g h. d .answer
-            ∙ same-pick (isAwait kind) _ _ _ await (λ q. await-run q g h) ∙ sym (rw (charge-is ∙ f) refl);
-        row = λ n left q g h. live-before g h;
+        answer = λ parameter g h. d .answer
+            ∙ same-pick (isAwait kind) _ _ _ await (λ q. await-run q parameter g h) ∙ sym (rw (charge-is ∙ f) refl);
+        row = λ n left q parameter g h. live-before parameter g h;
         places = λ n left q. ap (λ (v : Bool). n + pick v 1 0) await ∙ d .places n left q;
         entry = λ n left q. d .entry n left q
             ∙ ap (λ (v : Bool). pick v (storeCell t (2 * y .blocks + n) (pc ∷ cell m₂ (liveStateRow (y .blocks)))) t) (sym await);

@@ -17,7 +17,7 @@ use Rattle.memory.specs.Names.{costCell, liveStateRow, hostsRow}
 use Rattle.memory.specs.declared.layout.Layout.{Layout}
 use Rattle.sheet.specs.declared.script.Script.{Script}
 use Rattle.sheet.specs.Decode.{partsOf}
-use Rattle.script.specs.Script.{flowCode, parameterIn, hostIn}
+use Rattle.script.specs.Script.{flowCode, hostIn}
 use Rattle.answer.specs.Words.{Means}
 use Rattle.verdict.specs.Points.{Checking, stop, on, andThen, ifPaid, ifKept, Point, pointRun, awaitsRun, awaitPoints}
 use Rattle.reads.specs.Reads.{awaitsAmong}
@@ -46,13 +46,13 @@ pub record AwaitChecked (await : Bool) (y : Layout) (l : Limits) (slots : ℕ) (
   pub entry : (n : ℕ) (left : FlowBudget) → r ≡ Passed n left
       → t′ ≡ pick await (storeCell t (2 * y .blocks + n) (pc ∷ cell m (liveStateRow (y .blocks)))) t
 
--- what `check_instruction` does at pc: its cost is charged, the live row becomes the one before it, and an await there is checked
+-- what `check_instruction` does at pc, whichever slots are parameters: its cost is charged, the live row becomes the one before it, and an await there is checked
 pub record InstructionChecked (s : List ℕ) (x : Script) (y : Layout) (l : Limits) (b : FlowBudget) (pc place : ℕ) (m m′ t t′ : Mem) (r : Points) : Type 0 where
-  pub answer : (g : ℕ → Bool) → Means (y .words) (cell m (liveStateRow (y .blocks))) g
-      → pointsOf r ≡ pointRun (flowCode (partsOf s)) (parameterIn (partsOf s)) l (y .words) (x .slots) (hostIn (partsOf s)) pc
-      (λ i. liveTransfer (program (flowCode (partsOf s)) (parameterIn (partsOf s))) pc i (g i)) b
-  pub row : (n : ℕ) (left : FlowBudget) → r ≡ Passed n left → (g : ℕ → Bool) → Means (y .words) (cell m (liveStateRow (y .blocks))) g
-      → Means (y .words) (cell m′ (liveStateRow (y .blocks))) (λ i. liveTransfer (program (flowCode (partsOf s)) (parameterIn (partsOf s))) pc i (g i))
+  pub answer : (parameter g : ℕ → Bool) → Means (y .words) (cell m (liveStateRow (y .blocks))) g
+      → pointsOf r ≡ pointRun (flowCode (partsOf s)) parameter l (y .words) (x .slots) (hostIn (partsOf s)) pc
+      (λ i. liveTransfer (program (flowCode (partsOf s)) parameter) pc i (g i)) b
+  pub row : (n : ℕ) (left : FlowBudget) → r ≡ Passed n left → (parameter g : ℕ → Bool) → Means (y .words) (cell m (liveStateRow (y .blocks))) g
+      → Means (y .words) (cell m′ (liveStateRow (y .blocks))) (λ i. liveTransfer (program (flowCode (partsOf s)) parameter) pc i (g i))
   pub places : (n : ℕ) (left : FlowBudget) → r ≡ Passed n left → n + pick (awaitAt (flowCode (partsOf s)) pc) 1 0 ≡ place
   pub entry : (n : ℕ) (left : FlowBudget) → r ≡ Passed n left
       → t′ ≡ pick (awaitAt (flowCode (partsOf s)) pc) (storeCell t (2 * y .blocks + n) (pc ∷ cell m′ (liveStateRow (y .blocks)))) t
@@ -67,13 +67,13 @@ abbrev pub Entries : Layout → Mem → ℕ → List Point → Type 0
 Entries y t first [] = Unit {0}
 Entries y t first (p ∷ ps) = Entry (y .words) (cell t (2 * y .blocks + first)) p × Entries y t (first + 1) ps
 
--- what `check_awaits` does with the instructions from start to end: its awaits' facts stand before entry `place`
+-- what `check_awaits` does with the instructions from start to end, whichever slots are parameters: its awaits' facts stand before entry `place`
 pub record AwaitsChecked (s : List ℕ) (x : Script) (y : Layout) (l : Limits) (b : FlowBudget) (start end place : ℕ) (m m′ t t′ : Mem) (r : Points) : Type 0 where
-  pub answer : (g : ℕ → Bool) → Means (y .words) (cell m (liveStateRow (y .blocks))) g
-      → pointsOf r ≡ awaitsRun (flowCode (partsOf s)) (parameterIn (partsOf s)) l (y .words) (x .slots) (hostIn (partsOf s)) g (range start (end - start)) b
+  pub answer : (parameter g : ℕ → Bool) → Means (y .words) (cell m (liveStateRow (y .blocks))) g
+      → pointsOf r ≡ awaitsRun (flowCode (partsOf s)) parameter l (y .words) (x .slots) (hostIn (partsOf s)) g (range start (end - start)) b
   pub places : (n : ℕ) (left : FlowBudget) → r ≡ Passed n left → n + awaitsAmong (flowCode (partsOf s)) start end ≡ place
-  pub entries : (n : ℕ) (left : FlowBudget) → r ≡ Passed n left → (g : ℕ → Bool) → Means (y .words) (cell m (liveStateRow (y .blocks))) g
-      → Entries y t′ n (awaitPoints (flowCode (partsOf s)) (parameterIn (partsOf s)) g (range start (end - start)))
+  pub entries : (n : ℕ) (left : FlowBudget) → r ≡ Passed n left → (parameter g : ℕ → Bool) → Means (y .words) (cell m (liveStateRow (y .blocks))) g
+      → Entries y t′ n (awaitPoints (flowCode (partsOf s)) parameter g (range start (end - start)))
   pub others : (k : ℕ) → (k ≡ liveStateRow (y .blocks) → ⊥) → cell m′ k ≡ cell m k
   pub other-sets : (n : ℕ) (left : FlowBudget) → r ≡ Passed n left → (k : ℕ) → k < 2 * y .blocks + n → cell t′ k ≡ cell t k
 

@@ -1,2 +1,3 @@
 -- Laws of charging a budget.
 pub mod BudgetLaws
+pub mod LimitLaws

@@ -1,6 +1,6 @@
 -- A budget, its limits, and what charges make of it.
 use mathlib.Core.List.{List}
-use Prim.Native.Nat.{ℕ, _+_, _*_}
+use Prim.Native.Nat.{ℕ, _+_, _*_, min}
 use lib.Dec.{leb}
 use Rattle.dataflow.specs.Lists.{pick}
 use Rattle.dataflow.specs.Charges.{Spent, within, crossed, saturatingSum, spend}
@@ -12,6 +12,10 @@ use Rattle.budget.specs.declared.Charged.the-variants.{Ok, Over}
 -- today's limits: `MAX_FLOW_WORK` for work, `MAX_FLOW_BYTES` for state and for facts (flow.rs; document 01, rows 11, 12 and 15)
 abbrev pub todays : Limits
 todays = record { work = 100000000; state = 67108864; facts = 67108864 }
+
+-- limits as they count: each is at most today's
+abbrev pub counted : Limits → Limits
+counted l = record { work = min (l .work) (todays .work); state = min (l .state) (todays .state); facts = min (l .facts) (todays .facts) }
 
 -- the budget with this work
 abbrev pub withWork : FlowBudget → ℕ → FlowBudget

@@ -1,9 +1,9 @@
 // The budget of a run: `FlowBudget`, `charge` and `state_bytes` of the source. Limits travel beside it; a call that is handed none takes today's.
 ghost use mathlib.Core.Path.{_≡_};
 ghost use mathlib.Core.List.{[], _∷_};
-ghost use Prim.Native.Nat.{_≤_};
+ghost use Prim.Native.Nat.{_≤_, min};
 ghost use Rattle.dataflow.specs.Charges.{saturatingSum};
-ghost use Rattle.budget.specs.Budget.{todays, budgetOf, charged, retained, stateBytes, factsBytes};
+ghost use Rattle.budget.specs.Budget.{todays, counted, budgetOf, charged, retained, stateBytes, factsBytes};
 
 // Work charged and bytes of await facts retained so far.
 pub struct FlowBudget {
@@ -57,6 +57,27 @@ impl Limits {
             facts: 67108864,
         }
     }
+
+    // As they count: each is at most today's.
+    pub fn counted(self) -> Limits
+        ensures { λ r. ⌜ r ≡ counted self ⌝ }
+    {
+        let t = Limits::todays();
+        Limits {
+            work: smaller(self.work, t.work),
+            state: smaller(self.state, t.state),
+            facts: smaller(self.facts, t.facts),
+        }
+    }
+}
+
+fn smaller(a: u64, b: u64) -> u64
+    ensures { λ r. ⌜ r ≡ min a b ⌝ }
+{
+    if a < b {
+        return a;
+    }
+    b
 }
 
 impl FlowBudget {

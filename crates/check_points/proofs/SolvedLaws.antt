@@ -19,8 +19,6 @@ use Rattle.memory.proofs.CellLaws.{cell-store-same, cell-store-other, same-word
 use Rattle.memory.proofs.ScratchLaws.{scratch-length, row-words}
 use Rattle.memory.proofs.SetsLaws.{sets-row-words}
 use Rattle.sheet.specs.declared.script.Script.{Script}
-use Rattle.sheet.specs.Decode.{partsOf}
-use Rattle.script.specs.Script.{parameterIn}
 use Rattle.edges.proofs.FlowLaws.{Still, flows-still}
 use Rattle.transfer.specs.declared.direction.Direction.{Direction}
 use Rattle.transfer.specs.declared.direction.Direction.the-variants.{Initialization, Liveness}
@@ -31,7 +29,7 @@ use Rattle.fixed_points.proofs.CodeGraph.{connected}
 use Rattle.fixed_points.proofs.Gathered.{incoming-bits, live-out-bits}
 use Rattle.answer.specs.Words.{Means}
 use Rattle.reads.specs.declared.Reads.{Reads}
-use Rattle.reads.specs.Reads.{Coded, ReadsChecked}
+use Rattle.reads.specs.Reads.{heldSet, Coded, ReadsChecked}
 use Rattle.reads.proofs.ReadLaws as read
 use Rattle.check_points.specs.CheckPoints.{codeOf, Solved}
 
@@ -58,13 +56,17 @@ module _ {y : Layout} {m m′ : Mem} (h : RunningOnly y m m′) where
   pub word-kept : (k i : ℕ) → k < 10 → word m′ k i ≡ word m k i
   word-kept k i lt = same-word i (h .others k (λ e. omega arith) (λ e. omega arith))
 
+  -- the row of the parameters
+  pub held-kept : heldSet y m′ ≡ heldSet y m
+  held-kept = ap member (h .others (parametersRow (y .blocks)) (λ e. omega arith) (λ e. omega arith))
+
   -- the instructions can be read as before
   pub coded-kept : {s : List ℕ} {x : Script} → Coded s x y m → Coded s x y m′
   coded-kept c = read.coded-kept c (h .others offsetCell (λ e. omega arith) (λ e. omega arith)) (h .others costCell (λ e. omega arith) (λ e. omega arith))
       (h .others (hostsRow (y .blocks)) (λ e. omega arith) (λ e. omega arith))
 
   -- and so is all that the words hold
-  pub solved-kept : {s : List ℕ} {x : Script} {t : Mem} → Solved s x y m t → Solved s x y m′ t
+  pub solved-kept : {s : List ℕ} {parameter : ℕ → Bool} {x : Script} {t : Mem} → Solved s parameter x y m t → Solved s parameter x y m′ t
   solved-kept p = record {
     coded = coded-kept (p .coded);
     scripted = p .scripted;
@@ -84,8 +86,8 @@ sets-kept h g = record {
 }
 
 -- so what the words hold stays
-pub solved-sets : {s : List ℕ} {x : Script} {y : Layout} {m t t′ : Mem} → ((k : ℕ) → k < 2 * y .blocks → cell t′ k ≡ cell t k)
-    → Solved s x y m t → Solved s x y m t′
+pub solved-sets : {s : List ℕ} {parameter : ℕ → Bool} {x : Script} {y : Layout} {m t t′ : Mem} → ((k : ℕ) → k < 2 * y .blocks → cell t′ k ≡ cell t k)
+    → Solved s parameter x y m t → Solved s parameter x y m t′
 solved-sets h p = record {
   coded = p .coded;
   scripted = p .scripted;
@@ -111,7 +113,7 @@ gather-others Liveness {y} {m} ws e =
     record { others = λ k a b. ap (λ (z : Mem). cell z k) e ∙ cell-store-other m (liveStateRow (y .blocks)) ws k b }
 
 -- what `gather` requires of the edges
-pub solved-connected : {s : List ℕ} {x : Script} {y : Layout} {m t : Mem} → Solved s x y m t → Connected y m
+pub solved-connected : {s : List ℕ} {parameter : ℕ → Bool} {x : Script} {y : Layout} {m t : Mem} → Solved s parameter x y m t → Connected y m
 solved-connected p = connected (p .scripted) (p .flows)
 
 -- a row that was stored stands for what its words stand for
@@ -121,19 +123,19 @@ stored-means y l w k ws f lt e h =
     subst (λ (v : List ℕ). Means w v f)
     (sym (ap (λ (z : Mem). cell z k) e ∙ cell-store-same (scratch y l) k ws (omega (arith, scratch-length y l)))) h
 
-module _ {s : List ℕ} {x : Script} {y : Layout} (l u : List ℕ) (room : Room y (length l)) (fits : (i : ℕ) → getD l i 0 < 2 ^ 64)
-    (more : SetsRoom y (length u)) (fit : (i : ℕ) → getD u i 0 < 2 ^ 64) (p : Solved s x y (scratch y l) (sets y u)) (c : ℕ) (lc : c < y .blocks)
+module _ {s : List ℕ} {parameter : ℕ → Bool} {x : Script} {y : Layout} (l u : List ℕ) (room : Room y (length l)) (fits : (i : ℕ) → getD l i 0 < 2 ^ 64)
+    (more : SetsRoom y (length u)) (fit : (i : ℕ) → getD u i 0 < 2 ^ 64) (p : Solved s parameter x y (scratch y l) (sets y u)) (c : ℕ) (lc : c < y .blocks)
     {m′ : Mem} where
   -- the running state stands for what is initialized at the block's entry
   pub incoming-means : m′ ≡ storeCell (scratch y l) (runningRow Initialization y) (gathered Initialization y (scratch y l) (sets y u) c)
-      → Means (y .words) (cell m′ (stateRow (y .blocks))) (initEntry (codeOf s) (parameterIn (partsOf s)) (y .words) c)
+      → Means (y .words) (cell m′ (stateRow (y .blocks))) (initEntry (codeOf s) parameter (y .words) c)
   incoming-means e =
       stored-means y l (y .words) (stateRow (y .blocks)) _ _ (omega arith) e
       (incoming-bits (p .scripted) (p .flows) (λ k r. row-words l room r fits) (sets y u) (λ k r. sets-row-words u more r fit) c lc (p .sets))
 
   -- the running live set stands for what is live at its exit
   pub live-out-means : m′ ≡ storeCell (scratch y l) (runningRow Liveness y) (gathered Liveness y (scratch y l) (sets y u) c)
-      → Means (y .words) (cell m′ (liveStateRow (y .blocks))) (liveExit (codeOf s) (parameterIn (partsOf s)) (y .words) c)
+      → Means (y .words) (cell m′ (liveStateRow (y .blocks))) (liveExit (codeOf s) parameter (y .words) c)
   live-out-means e =
       stored-means y l (y .words) (liveStateRow (y .blocks)) _ _ (omega arith) e
       (live-out-bits (p .scripted) (p .flows) (λ k r. row-words l room r fits) (sets y u) (λ k r. sets-row-words u more r fit) c lc (p .sets))

@@ -37,9 +37,9 @@ pub record Span (s : List ℕ) (y : Layout) (c start end : ℕ) : Type 0 where
   pub is : body (codeOf s) c ≡ range start (end - start)
 
 -- so the words START and END say
-pub spans : {s : List ℕ} {x : Script} {y : Layout} {m t : Mem} → Solved s x y m t → (c : ℕ) → c < y .blocks → {start end : ℕ}
+pub spans : {s : List ℕ} {parameter : ℕ → Bool} {x : Script} {y : Layout} {m t : Mem} → Solved s parameter x y m t → (c : ℕ) → c < y .blocks → {start end : ℕ}
     → start ≡ word m startCell c → end ≡ word m endCell c → Span s y c start end
-spans {s} {x} {y} p c lc {start} {end} e f =
+spans {s} {parameter} {x} {y} p c lc {start} {end} e f =
     let z = spans-at (codeOf s) (parameterIn (partsOf s)) (x .slots) (checked s x (p .coded .sound)) c start end
     (subst (λ (n : ℕ). c < n) (p .flows .blocks) lc) (e ∙ p .starts c lc) (f ∙ p .ends c lc) in
     record {
@@ -106,5 +106,5 @@ code-awaits s x h =
         ∙ ap (λ (i : flow.Instruction). i .isAwait) (map-at flowInstruction (partsOf s .code) j (record { kind = 0; fields = [] }) outside lt)
 
 -- the points are no more than the awaits
-pub points-few : (s : List ℕ) (x : Script) → Sound s x → (words : ℕ) → length (points (codeOf s) (parameterIn (partsOf s)) words) ≤ x .awaits
-points-few s x h words = omega (arith, listed.points-few (codeOf s) (parameterIn (partsOf s)) words, code-awaits s x h)
+pub points-few : (s : List ℕ) (parameter : ℕ → Bool) (x : Script) → Sound s x → (words : ℕ) → length (points (codeOf s) parameter words) ≤ x .awaits
+points-few s parameter x h words = omega (arith, listed.points-few (codeOf s) parameter words, code-awaits s x h)

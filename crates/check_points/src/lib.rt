@@ -15,6 +15,7 @@ ghost use lib.ListN.{length};
 ghost use Rattle.dataflow.specs.Results.{reachable};
 ghost use Rattle.memory.specs.Scratch.{scratch, Room};
 ghost use Rattle.memory.specs.Sets.{sets, SetsRoom};
+ghost use Rattle.reads.specs.Reads.{heldSet};
 ghost use Rattle.check_points.specs.CheckPoints.{codeOf, Solved, Facing, refusedBy, raisedTo, Counted, FoundChecked, BlockChecked, PointsChecked};
 
 // It passed, with how many awaits are reached; or why it is refused.
@@ -27,8 +28,8 @@ pub fn check_points(
     limits: Limits,
     budget: FlowBudget,
 ) -> Points
-    requires { ⌜ Room y (length (now s)) × SetsRoom y (length (now t)) × (Solved (now sheet) script y (scratch y (now s)) (sets y (now t))) ⌝ }
-    ensures { λ r. ⌜ PointsChecked (now (sheet .entry)) script y limits budget (scratch y (now (s .entry))) (scratch y (now (s .exit))) (sets y (now (t .entry))) (sets y (now (t .exit))) r ⌝ }
+    requires { ⌜ Room y (length (now s)) × SetsRoom y (length (now t)) × (Solved (now sheet) (heldSet y (scratch y (now s))) script y (scratch y (now s)) (sets y (now t))) ⌝ }
+    ensures { λ r. ⌜ PointsChecked (now (sheet .entry)) (heldSet y (scratch y (now (s .entry)))) script y limits budget (scratch y (now (s .entry))) (scratch y (now (s .exit))) (sets y (now (t .entry))) (sets y (now (t .exit))) r ⌝ }
 {
     let mut left = budget;
     let mut place = 0;
@@ -57,8 +58,8 @@ fn check_block(
     limits: Limits,
     budget: FlowBudget,
 ) -> Points
-    requires { ⌜ Room y (length (now s)) × SetsRoom y (length (now t)) × (Facing (now sheet) script y block place (scratch y (now s)) (sets y (now t))) ⌝ }
-    ensures { λ r. ⌜ BlockChecked (now (sheet .entry)) script y limits budget block place (scratch y (now (s .entry))) (scratch y (now (s .exit))) (sets y (now (t .entry))) (sets y (now (t .exit))) r ⌝ }
+    requires { ⌜ Room y (length (now s)) × SetsRoom y (length (now t)) × (Facing (now sheet) (heldSet y (scratch y (now s))) script y block place (scratch y (now s)) (sets y (now t))) ⌝ }
+    ensures { λ r. ⌜ BlockChecked (now (sheet .entry)) (heldSet y (scratch y (now (s .entry)))) script y limits budget block place (scratch y (now (s .entry))) (scratch y (now (s .exit))) (sets y (now (t .entry))) (sets y (now (t .exit))) r ⌝ }
 {
     if memory::scratch::get(s, y, layout::REACHABLE, block) == 0 {
         return Points::Passed(place, budget);
@@ -78,8 +79,8 @@ fn check_reached(
     limits: Limits,
     budget: FlowBudget,
 ) -> Points
-    requires { ⌜ Room y (length (now s)) × SetsRoom y (length (now t)) × (Facing (now sheet) script y block place (scratch y (now s)) (sets y (now t))) × (reachable (codeOf (now sheet)) block ≡ true) ⌝ }
-    ensures { λ r. ⌜ BlockChecked (now (sheet .entry)) script y limits budget block place (scratch y (now (s .entry))) (scratch y (now (s .exit))) (sets y (now (t .entry))) (sets y (now (t .exit))) r ⌝ }
+    requires { ⌜ Room y (length (now s)) × SetsRoom y (length (now t)) × (Facing (now sheet) (heldSet y (scratch y (now s))) script y block place (scratch y (now s)) (sets y (now t))) × (reachable (codeOf (now sheet)) block ≡ true) ⌝ }
+    ensures { λ r. ⌜ BlockChecked (now (sheet .entry)) (heldSet y (scratch y (now (s .entry)))) script y limits budget block place (scratch y (now (s .entry))) (scratch y (now (s .exit))) (sets y (now (t .entry))) (sets y (now (t .exit))) r ⌝ }
 {
     compute::gather(s, t, y, Direction::Initialization, block);
     let start = memory::scratch::get(s, y, layout::START, block) as usize;
@@ -119,8 +120,8 @@ fn check_found(
     limits: Limits,
     budget: FlowBudget,
 ) -> Points
-    requires { ⌜ Room y (length (now s)) × SetsRoom y (length (now t)) × (Counted (now sheet) script y block start end place found (scratch y (now s)) (sets y (now t))) ⌝ }
-    ensures { λ r. ⌜ FoundChecked (now (sheet .entry)) script y limits budget block place found (scratch y (now (s .entry))) (scratch y (now (s .exit))) (sets y (now (t .entry))) (sets y (now (t .exit))) r ⌝ }
+    requires { ⌜ Room y (length (now s)) × SetsRoom y (length (now t)) × (Counted (now sheet) (heldSet y (scratch y (now s))) script y block start end place found (scratch y (now s)) (sets y (now t))) ⌝ }
+    ensures { λ r. ⌜ FoundChecked (now (sheet .entry)) (heldSet y (scratch y (now (s .entry)))) script y limits budget block place found (scratch y (now (s .entry))) (scratch y (now (s .exit))) (sets y (now (t .entry))) (sets y (now (t .exit))) r ⌝ }
 {
     if found == 0 {
         return awaits::charge_back(s, y, start, end, place, limits, budget);
@@ -156,8 +157,8 @@ fn check_leaving(
     limits: Limits,
     budget: FlowBudget,
 ) -> Points
-    requires { ⌜ Room y (length (now s)) × SetsRoom y (length (now t)) × (Counted (now sheet) script y block start end place found (scratch y (now s)) (sets y (now t))) ⌝ }
-    ensures { λ r. ⌜ FoundChecked (now (sheet .entry)) script y limits budget block place found (scratch y (now (s .entry))) (scratch y (now (s .exit))) (sets y (now (t .entry))) (sets y (now (t .exit))) r ⌝ }
+    requires { ⌜ Room y (length (now s)) × SetsRoom y (length (now t)) × (Counted (now sheet) (heldSet y (scratch y (now s))) script y block start end place found (scratch y (now s)) (sets y (now t))) ⌝ }
+    ensures { λ r. ⌜ FoundChecked (now (sheet .entry)) (heldSet y (scratch y (now (s .entry)))) script y limits budget block place found (scratch y (now (s .entry))) (scratch y (now (s .exit))) (sets y (now (t .entry))) (sets y (now (t .exit))) r ⌝ }
 {
     compute::gather(s, t, y, Direction::Liveness, block);
     let next = place + found;

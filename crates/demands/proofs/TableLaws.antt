@@ -31,7 +31,7 @@ use Rattle.fixed_points.specs.FixedPoints.{fixedPointsCharges}
 use Rattle.verdict.specs.Points.{Checking, stop, on, pointsRun, points}
 use Rattle.verdict.proofs.RunLaws.{refusals}
 use Rattle.outcome.specs.Outcome.{Lengths, Outcome, accepted, refused, afterPoints, afterRounds, afterGraph, judged, afterChecks, outcomeOf}
-use Rattle.demands.specs.Demands.{code, parameter, host}
+use Rattle.demands.specs.Demands.{code, host}
 use Rattle.demands.specs.Table.{layout, short, Begins, Counts, Fits, Builds, Solves, Checks, Due}
 use Rattle.demands.specs.Table.{
   bad-sheet,
@@ -60,81 +60,81 @@ pub passed-id : (s : List ℕ) → refusal s ≡ none → scriptOf s .id ≡ idO
 unfolding scriptOf idOf
 passed-id s e = ap (λ (f : Option Refusal). idAfter f (idIn s)) (sym (clean s e .function-ok))
 
-module _ (s : List ℕ) (l : Limits) (n : Lengths) (b : FlowBudget) where
+module _ (s : List ℕ) (parameter : ℕ → Bool) (l : Limits) (n : Lengths) (b : FlowBudget) where
   -- the answer, from each stage on
-  after-passed : refusal s ≡ none → outcomeOf s l n b ≡ judged s (scriptOf s) l n b
+  after-passed : refusal s ≡ none → outcomeOf s parameter l n b ≡ judged s parameter (scriptOf s) l n b
   unfolding outcomeOf checkedOf
-  after-passed e = ap (λ (f : Option Refusal). afterChecks s l n b (checkedBy f (idOf s) (scriptOf s))) e
+  after-passed e = ap (λ (f : Option Refusal). afterChecks s parameter l n b (checkedBy f (idOf s) (scriptOf s))) e
 
   -- `graph`'s rooms, and its later charges
   abbrev rooms : FlowBudget → Staged
-  rooms = roomsOf l (layout s l n b) (n .scratch) (record { sets = n .sets; records = n .records })
+  rooms = roomsOf l (layout s parameter l n b) (n .scratch) (record { sets = n .sets; records = n .records })
 
   abbrev later : List ℕ
   later = operandCharges (code s) ++ reachabilityCharges (code s)
 
   abbrev rounds : List ℕ
-  rounds = fixedPointsCharges (code s) (parameter s) (layout s l n b .words)
+  rounds = fixedPointsCharges (code s) parameter (layout s parameter l n b .words)
 
   abbrev checked : FlowBudget → Checking
-  checked = pointsRun (code s) (parameter s) l (layout s l n b .words) (scriptOf s .slots) (host s)
+  checked = pointsRun (code s) parameter l (layout s parameter l n b .words) (scriptOf s .slots) (host s)
 
   abbrev x : Script
   x = scriptOf s
 
-  after-begins : Begins s l n b → outcomeOf s l n b
-      ≡ afterGraph s x l (ifOk (ifMet (charged l b (0 ∷ leaderCharges (code s))) rooms) (stage l later))
+  after-begins : Begins s parameter l n b → outcomeOf s parameter l n b
+      ≡ afterGraph s parameter x l (ifOk (ifMet (charged l b (0 ∷ leaderCharges (code s))) rooms) (stage l later))
   unfolding graphOf
   after-begins g = after-passed (g .passed) ∙ pick-no _ _ (le-ltb (n .scratch) (4 * x .count) (g .room))
 
-  after-counts : (left : FlowBudget) → Counts s l n b left → outcomeOf s l n b ≡ afterGraph s x l (ifOk (rooms left) (stage l later))
-  after-counts left g = after-begins (g .begins) ∙ ap (λ (c : Charged). afterGraph s x l (ifOk (ifMet c rooms) (stage l later))) (g .paid)
+  after-counts : (left : FlowBudget) → Counts s parameter l n b left → outcomeOf s parameter l n b ≡ afterGraph s parameter x l (ifOk (rooms left) (stage l later))
+  after-counts left g = after-begins (g .begins) ∙ ap (λ (c : Charged). afterGraph s parameter x l (ifOk (ifMet c rooms) (stage l later))) (g .paid)
 
-  fits-ok : (left : FlowBudget) → Fits s l n b left → rooms left ≡ staging.Ok (layout s l n b) left
-  fits-ok left g = sym (room-there l (layout s l n b) (n .scratch) (record { sets = n .sets; records = n .records }) left (g .state) (g .room))
+  fits-ok : (left : FlowBudget) → Fits s parameter l n b left → rooms left ≡ staging.Ok (layout s parameter l n b) left
+  fits-ok left g = sym (room-there l (layout s parameter l n b) (n .scratch) (record { sets = n .sets; records = n .records }) left (g .state) (g .room))
 
-  after-fits : (left : FlowBudget) → Fits s l n b left → outcomeOf s l n b ≡ afterGraph s x l (stage l later (layout s l n b) left)
-  after-fits left g = after-counts left (g .counts) ∙ ap (λ (c : Staged). afterGraph s x l (ifOk c (stage l later))) (fits-ok left g)
+  after-fits : (left : FlowBudget) → Fits s parameter l n b left → outcomeOf s parameter l n b ≡ afterGraph s parameter x l (stage l later (layout s parameter l n b) left)
+  after-fits left g = after-counts left (g .counts) ∙ ap (λ (c : Staged). afterGraph s parameter x l (ifOk c (stage l later))) (fits-ok left g)
 
-  after-builds : (left : FlowBudget) → Builds s l n b left → outcomeOf s l n b ≡ afterRounds s x l (layout s l n b) (charged l left rounds)
-  after-builds left g = after-fits (g .before) (g .fits) ∙ ap (λ (c : Charged). afterGraph s x l (ifMet c (staging.Ok (layout s l n b)))) (g .paid)
+  after-builds : (left : FlowBudget) → Builds s parameter l n b left → outcomeOf s parameter l n b ≡ afterRounds s parameter x l (layout s parameter l n b) (charged l left rounds)
+  after-builds left g = after-fits (g .before) (g .fits) ∙ ap (λ (c : Charged). afterGraph s parameter x l (ifMet c (staging.Ok (layout s parameter l n b)))) (g .paid)
 
-  after-solves : (left : FlowBudget) → Solves s l n b left → outcomeOf s l n b ≡ afterPoints s x l (layout s l n b) (checked left)
-  after-solves left g = after-builds (g .before) (g .builds) ∙ ap (afterRounds s x l (layout s l n b)) (g .paid)
+  after-solves : (left : FlowBudget) → Solves s parameter l n b left → outcomeOf s parameter l n b ≡ afterPoints s parameter x l (layout s parameter l n b) (checked left)
+  after-solves left g = after-builds (g .before) (g .builds) ∙ ap (afterRounds s parameter x l (layout s parameter l n b)) (g .paid)
 
-  after-checks : (end : Checking) → Checks s l n b end → outcomeOf s l n b ≡ afterPoints s x l (layout s l n b) end
-  after-checks end g = after-solves (g .before) (g .solves) ∙ ap (afterPoints s x l (layout s l n b)) (g .is)
+  after-checks : (end : Checking) → Checks s parameter l n b end → outcomeOf s parameter l n b ≡ afterPoints s parameter x l (layout s parameter l n b) end
+  after-checks end g = after-solves (g .before) (g .solves) ∙ ap (afterPoints s parameter x l (layout s parameter l n b)) (g .is)
 
   -- all stages begin with a sheet that passed
-  solves-passed : (left : FlowBudget) → Solves s l n b left → refusal s ≡ none
+  solves-passed : (left : FlowBudget) → Solves s parameter l n b left → refusal s ≡ none
   solves-passed left g = g .builds .fits .counts .begins .passed
 
-  checks-id : (end : Checking) → Checks s l n b end → x .id ≡ idOf s
+  checks-id : (end : Checking) → Checks s parameter l n b end → x .id ≡ idOf s
   checks-id end g = passed-id s (solves-passed (g .before) (g .solves))
 
   -- what is due is given
-  pub due-given : (o : Outcome) → Due s l n b o → outcomeOf s l n b ≡ o
+  pub due-given : (o : Outcome) → Due s parameter l n b o → outcomeOf s parameter l n b ≡ o
   unfolding outcomeOf checkedOf
-  due-given o (bad-sheet r e) = ap (λ (f : Option Refusal). afterChecks s l n b (checkedBy f (idOf s) x)) e
+  due-given o (bad-sheet r e) = ap (λ (f : Option Refusal). afterChecks s parameter l n b (checkedBy f (idOf s) x)) e
   due-given o (no-room-early e lt) = after-passed e ∙ pick-yes _ _ (lt-ltb (n .scratch) (4 * x .count) lt) ∙ ap (λ (i : ℕ). refused NoRoom i b) (passed-id s e)
   due-given o (no-room left g le e) =
       after-counts left g
-      ∙ ap (λ (c : Staged). afterGraph s x l (ifOk c (stage l later)))
-      (sym (room-due l (layout s l n b) (n .scratch) (record { sets = n .sets; records = n .records }) left le e))
+      ∙ ap (λ (c : Staged). afterGraph s parameter x l (ifOk c (stage l later)))
+      (sym (room-due l (layout s parameter l n b) (n .scratch) (record { sets = n .sets; records = n .records }) left le e))
       ∙ ap (λ (i : ℕ). refused NoRoom i left) (passed-id s (g .begins .passed))
   due-given o (state-limit left g lt) =
       after-counts left g
-      ∙ ap (λ (c : Staged). afterGraph s x l (ifOk c (stage l later)))
-      (sym (state-due l (layout s l n b) (n .scratch) (record { sets = n .sets; records = n .records }) left lt))
+      ∙ ap (λ (c : Staged). afterGraph s parameter x l (ifOk c (stage l later)))
+      (sym (state-due l (layout s parameter l n b) (n .scratch) (record { sets = n .sets; records = n .records }) left lt))
       ∙ ap (λ (i : ℕ). refused StateLimit i left) (passed-id s (g .begins .passed))
   due-given o (work-counting over g e) =
-      after-begins g ∙ ap (λ (c : Charged). afterGraph s x l (ifOk (ifMet c rooms) (stage l later))) e
+      after-begins g ∙ ap (λ (c : Charged). afterGraph s parameter x l (ifOk (ifMet c rooms) (stage l later))) e
       ∙ ap (λ (i : ℕ). refused WorkLimit i over) (passed-id s (g .passed))
   due-given o (work-building before over g e) =
-      after-fits before g ∙ ap (λ (c : Charged). afterGraph s x l (ifMet c (staging.Ok (layout s l n b)))) e
+      after-fits before g ∙ ap (λ (c : Charged). afterGraph s parameter x l (ifMet c (staging.Ok (layout s parameter l n b)))) e
       ∙ ap (λ (i : ℕ). refused WorkLimit i over) (passed-id s (g .counts .begins .passed))
   due-given o (work-solving before over g e) =
-      after-builds before g ∙ ap (afterRounds s x l (layout s l n b)) e
+      after-builds before g ∙ ap (afterRounds s parameter x l (layout s parameter l n b)) e
       ∙ ap (λ (i : ℕ). refused WorkLimit i over) (passed-id s (g .fits .counts .begins .passed))
   due-given o (work-checking over g) = after-checks (stop WorkLimit over) g ∙ ap (λ (i : ℕ). refused WorkLimit i over) (checks-id _ g)
   due-given o (unfilled-slot left g) = after-checks (stop UnfilledSlot left) g ∙ ap (λ (i : ℕ). refused UnfilledSlot i left) (checks-id _ g)
@@ -142,46 +142,46 @@ module _ (s : List ℕ) (l : Limits) (n : Lengths) (b : FlowBudget) where
   due-given o (facts-limit over g) = after-checks (stop FactsLimit over) g ∙ ap (λ (i : ℕ). refused FactsLimit i over) (checks-id _ g)
   due-given o (acceptance left g) =
       after-checks (on left) g
-      ∙ ap (λ (i : ℕ). accepted i (layout s l n b .blocks) (length (points (code s) (parameter s) (layout s l n b .words))) left) (checks-id _ g)
+      ∙ ap (λ (i : ℕ). accepted i (layout s parameter l n b .blocks) (length (points (code s) parameter (layout s parameter l n b .words))) left) (checks-id _ g)
 
   -- some answer is due
   abbrev SomeDue : Type 0
-  SomeDue = (o : Outcome) × Due s l n b o
+  SomeDue = (o : Outcome) × Due s parameter l n b o
 
-  due-stop : (r : Refusal) (left : FlowBudget) → Checks s l n b (stop r left)
+  due-stop : (r : Refusal) (left : FlowBudget) → Checks s parameter l n b (stop r left)
       → (r ≡ WorkLimit) ⊎ ((r ≡ UnfilledSlot) ⊎ ((r ≡ HostOverAwait) ⊎ (r ≡ FactsLimit))) → SomeDue
-  due-stop r left g (inl e) = (_, work-checking left (subst (λ (q : Refusal). Checks s l n b (stop q left)) e g))
-  due-stop r left g (inr (inl e)) = (_, unfilled-slot left (subst (λ (q : Refusal). Checks s l n b (stop q left)) e g))
-  due-stop r left g (inr (inr (inl e))) = (_, host-over-await left (subst (λ (q : Refusal). Checks s l n b (stop q left)) e g))
-  due-stop r left g (inr (inr (inr e))) = (_, facts-limit left (subst (λ (q : Refusal). Checks s l n b (stop q left)) e g))
+  due-stop r left g (inl e) = (_, work-checking left (subst (λ (q : Refusal). Checks s parameter l n b (stop q left)) e g))
+  due-stop r left g (inr (inl e)) = (_, unfilled-slot left (subst (λ (q : Refusal). Checks s parameter l n b (stop q left)) e g))
+  due-stop r left g (inr (inr (inl e))) = (_, host-over-await left (subst (λ (q : Refusal). Checks s parameter l n b (stop q left)) e g))
+  due-stop r left g (inr (inr (inr e))) = (_, facts-limit left (subst (λ (q : Refusal). Checks s parameter l n b (stop q left)) e g))
 
-  due-checked : (before : FlowBudget) → Solves s l n b before → (end : Checking) → checked before ≡ end → SomeDue
+  due-checked : (before : FlowBudget) → Solves s parameter l n b before → (end : Checking) → checked before ≡ end → SomeDue
   due-checked before g (on left) e = (_, acceptance left (record { before = before; solves = g; is = e }))
   due-checked before g (stop r left) e = due-stop r left (record { before = before; solves = g; is = e })
-      (refusals (code s) (parameter s) l (layout s l n b .words) (x .slots) (host s) before r left e)
+      (refusals (code s) parameter l (layout s parameter l n b .words) (x .slots) (host s) before r left e)
 
-  due-solved : (before : FlowBudget) → Builds s l n b before → (c : Charged) → charged l before rounds ≡ c → SomeDue
+  due-solved : (before : FlowBudget) → Builds s parameter l n b before → (c : Charged) → charged l before rounds ≡ c → SomeDue
   due-solved before g (Over over) e = (_, work-solving before over g e)
   due-solved before g (Ok left) e = due-checked left (record { before = before; builds = g; paid = e }) (checked left) refl
 
-  due-built : (before : FlowBudget) → Fits s l n b before → (c : Charged) → charged l before later ≡ c → SomeDue
+  due-built : (before : FlowBudget) → Fits s parameter l n b before → (c : Charged) → charged l before later ≡ c → SomeDue
   due-built before g (Over over) e = (_, work-building before over g e)
   due-built before g (Ok left) e = due-solved left (record { before = before; fits = g; paid = e }) (charged l left rounds) refl
 
-  due-room : (left : FlowBudget) → Counts s l n b left → stateBytes (layout s l n b .blocks) (layout s l n b .words) ≤ l .state
-      → (t : Bool) → short s l n b ≡ t → SomeDue
+  due-room : (left : FlowBudget) → Counts s parameter l n b left → stateBytes (layout s parameter l n b .blocks) (layout s parameter l n b .words) ≤ l .state
+      → (t : Bool) → short s parameter l n b ≡ t → SomeDue
   due-room left g le true e = (_, no-room left g le e)
   due-room left g le false e = due-built left (record { counts = g; state = le; room = e }) (charged l left later) refl
 
-  due-counted : (left : FlowBudget) → Counts s l n b left → Dec (l .state < stateBytes (layout s l n b .blocks) (layout s l n b .words)) → SomeDue
+  due-counted : (left : FlowBudget) → Counts s parameter l n b left → Dec (l .state < stateBytes (layout s parameter l n b .blocks) (layout s parameter l n b .words)) → SomeDue
   due-counted left g (yes lt) = (_, state-limit left g lt)
-  due-counted left g (no ge) = due-room left g (omega arith) (short s l n b) refl
+  due-counted left g (no ge) = due-room left g (omega arith) (short s parameter l n b) refl
 
-  due-begun : Begins s l n b → (c : Charged) → charged l b (0 ∷ leaderCharges (code s)) ≡ c → SomeDue
+  due-begun : Begins s parameter l n b → (c : Charged) → charged l b (0 ∷ leaderCharges (code s)) ≡ c → SomeDue
   due-begun g (Over over) e = (_, work-counting over g e)
   due-begun g (Ok left) e = due-counted left (record { begins = g; paid = e }) (decLt _ _)
 
-  due-passed : refusal s ≡ none → Dec (n .scratch < 4 * layout s l n b .instructions) → SomeDue
+  due-passed : refusal s ≡ none → Dec (n .scratch < 4 * layout s parameter l n b .instructions) → SomeDue
   due-passed e (yes lt) = (_, no-room-early e lt)
   due-passed e (no ge) = due-begun (record { passed = e; room = omega arith }) (charged l b (0 ∷ leaderCharges (code s))) refl
 
@@ -190,8 +190,8 @@ module _ (s : List ℕ) (l : Limits) (n : Lengths) (b : FlowBudget) where
   some-due none e = due-passed e (decLt _ _)
 
   -- each answer is given exactly if it is due
-  pub table : (o : Outcome) → Due s l n b o ↔ (outcomeOf s l n b ≡ o)
+  pub table : (o : Outcome) → Due s parameter l n b o ↔ (outcomeOf s parameter l n b ≡ o)
   table o = (
     due-given o,
-    λ e. let d = some-due (refusal s) refl in subst (Due s l n b) (sym (due-given (d .0) (d .1)) ∙ e) (d .1),
+    λ e. let d = some-due (refusal s) refl in subst (Due s parameter l n b) (sym (due-given (d .0) (d .1)) ∙ e) (d .1),
   )

@@ -1,5 +1,6 @@
--- Document 01's refusal table with its last paragraph, row by row: which answer is due for these bytes, lent lengths and budget. Rows 1 to 9 are
--- `refusal`, whose rows stand in crates/sheet/specs/Rows.antt. The law `table` says that each answer is given exactly if it is due.
+-- Document 01's refusal table with its last paragraph, row by row: which answer is due for these bytes, with these parameters, limits, lent lengths
+-- and budget. Rows 1 to 9 are `refusal`, whose rows stand in crates/sheet/specs/Rows.antt. The law `table` says that each answer is given exactly if
+-- it is due.
 use mathlib.Core.Path.{_≡_}
 use mathlib.Core.Bool.{Bool, true, false}
 use mathlib.Core.List.{List, _∷_, _++_}
@@ -21,9 +22,9 @@ use Rattle.sheet.specs.Checks.{scriptOf}
 use Rattle.fixed_points.specs.FixedPoints.{fixedPointsCharges}
 use Rattle.verdict.specs.Points.{Checking, stop, on, pointsRun, points}
 use Rattle.outcome.specs.Outcome.{Lengths, Outcome, accepted, refused}
-use Rattle.demands.specs.Demands.{code, parameter, host}
+use Rattle.demands.specs.Demands.{code, host}
 
-module _ (s : List ℕ) (l : Limits) (n : Lengths) (b : FlowBudget) where
+module _ (s : List ℕ) (parameter : ℕ → Bool) (l : Limits) (n : Lengths) (b : FlowBudget) where
   -- N, B and w of the script
   abbrev pub layout : Layout
   layout = layoutOf (scriptOf s) (blockCount (code s))
@@ -57,13 +58,13 @@ module _ (s : List ℕ) (l : Limits) (n : Lengths) (b : FlowBudget) where
   pub record Solves (left : FlowBudget) : Type 0 where
     pub before : FlowBudget
     pub builds : Builds before
-    pub paid : charged l before (fixedPointsCharges (code s) (parameter s) (layout .words)) ≡ Ok left
+    pub paid : charged l before (fixedPointsCharges (code s) parameter (layout .words)) ≡ Ok left
 
   -- then `check_points`, which ends like this
   pub record Checks (end : Checking) : Type 0 where
     pub before : FlowBudget
     pub solves : Solves before
-    pub is : pointsRun (code s) (parameter s) l (layout .words) (scriptOf s .slots) (host s) before ≡ end
+    pub is : pointsRun (code s) parameter l (layout .words) (scriptOf s .slots) (host s) before ≡ end
 
   -- "A refusal returns number, function id .. and budget: as given for 1 to 9 and the early 10, otherwise as charged, the sum that crossed a limit
   -- included. An acceptance returns function id, B, the number of reachable awaits and the budget."
@@ -80,7 +81,7 @@ module _ (s : List ℕ) (l : Limits) (n : Lengths) (b : FlowBudget) where
     work-building : (before over : FlowBudget) → Fits before → charged l before (operandCharges (code s) ++ reachabilityCharges (code s)) ≡ Over over
         → Due (refused WorkLimit (idOf s) over)
     work-solving : (before over : FlowBudget) → Builds before
-        → charged l before (fixedPointsCharges (code s) (parameter s) (layout .words)) ≡ Over over → Due (refused WorkLimit (idOf s) over)
+        → charged l before (fixedPointsCharges (code s) parameter (layout .words)) ≡ Over over → Due (refused WorkLimit (idOf s) over)
     work-checking : (over : FlowBudget) → Checks (stop WorkLimit over) → Due (refused WorkLimit (idOf s) over)
     -- 13, 14, 15
     unfilled-slot : (left : FlowBudget) → Checks (stop UnfilledSlot left) → Due (refused UnfilledSlot (idOf s) left)
@@ -88,4 +89,4 @@ module _ (s : List ℕ) (l : Limits) (n : Lengths) (b : FlowBudget) where
     facts-limit : (over : FlowBudget) → Checks (stop FactsLimit over) → Due (refused FactsLimit (idOf s) over)
     -- acceptance
     acceptance : (left : FlowBudget) → Checks (on left)
-        → Due (accepted (idOf s) (layout .blocks) (length (points (code s) (parameter s) (layout .words))) left)
+        → Due (accepted (idOf s) (layout .blocks) (length (points (code s) parameter (layout .words))) left)

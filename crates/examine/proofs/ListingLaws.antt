@@ -30,16 +30,16 @@ module _ {code : List Instruction} {parameter : ℕ → Bool} {m : Mem} {c : ℕ
       go (yes l) = h .edges k l
       go (no l) = h .unused k lt (omega arith) ∙ sym (List·getD-eq-default (blockSuccessors code c) 0 {n = k} (omega arith))
 
-  record-there : (words : ℕ) → word m reachableCell c ≡ flag (reachable code c) → recordIn m c ≡ blockRecord code parameter words c
-  record-there words reached =
+  record-there : word m reachableCell c ≡ flag (reachable code c) → recordIn m c ≡ blockRecord code c
+  record-there reached =
       let e : word m successorCell (2 * c) ≡ getD (blockSuccessors code c) 0 0 =
       ap (word m successorCell) (sym (add-zero (2 * c))) ∙ edge-is 0 (omega arith) in
       let f : word m successorCell (2 * c + 1) ≡ getD (blockSuccessors code c) 1 0 = edge-is 1 (omega arith) in
       rw (h .start, h .end, reached, h .counted, e, f) refl
 
-pub listing : (s : List ℕ) (x : Script) (lent : Lent) (w v : List ℕ) (y : Layout) → AcceptedWords s x lent w v y → Listing s (lent .records) w y
-listing s x lent w v y a = record {
+pub listing : (s : List ℕ) (parameter : ℕ → Bool) (x : Script) (lent : Lent) (w v : List ℕ) (y : Layout) → AcceptedWords s parameter x lent w v y → Listing s (lent .records) w y
+listing s parameter x lent w v y a = record {
   room = a .room;
   lent = a .records;
-  record-is = λ c lt. record-there (a .finished .block c lt) (y .words) (a .finished .flows .reached c lt);
+  record-is = λ c lt. record-there (a .finished .block c lt) (a .finished .flows .reached c lt);
 }

@@ -1,5 +1,6 @@
--- What `examine` answers and leaves: of the sheet, the lengths of the buffers and the budget.
+-- What `examine` answers and leaves: of the sheet, the set of parameters, the limits, the lengths of the buffers and the budget.
 use mathlib.Core.Path.{_≡_}
+use mathlib.Core.Bool.{Bool}
 use mathlib.Core.List.{List}
 use Prim.Native.Nat.{ℕ, _≤_, _<_}
 use lib.ListN.{length}
@@ -8,7 +9,7 @@ use Rattle.budget.specs.declared.Limits.{Limits}
 use Rattle.memory.specs.declared.layout.Layout.{Layout}
 use Rattle.memory.specs.Scratch.{scratch, Room}
 use Rattle.sheet.specs.Decode.{partsOf}
-use Rattle.script.specs.Script.{flowCode, parameterIn}
+use Rattle.script.specs.Script.{flowCode}
 use Rattle.outcome.specs.Outcome.{lengthsWith, Outcome, accepted, refused, outcomeOf}
 use Rattle.outcome.specs.Buffers.{blockRecord, setsAfter}
 use Rattle.blocklist.specs.List.{recordIn}
@@ -25,10 +26,10 @@ pub record Listing (s : List ℕ) (records : ℕ) (w : List ℕ) (y : Layout) : 
   pub room : Room y (length w)
   pub lent : y .blocks ≤ records
   pub record-is : (c : ℕ) → c < y .blocks
-      → recordIn (scratch y w) c ≡ blockRecord (flowCode (partsOf s)) (parameterIn (partsOf s)) (y .words) c
+      → recordIn (scratch y w) c ≡ blockRecord (flowCode (partsOf s)) c
 
 -- what `examine` does with the words w of scratch and v of the sets buffer
-pub record Examines (s : List ℕ) (l : Limits) (records : ℕ) (b : FlowBudget) (w w′ v v′ : List ℕ) (r : Examined) : Type 0 where
-  pub answer : outcomeIn r ≡ outcomeOf s l (lengthsWith w v records) b
-  pub sets : v′ ≡ setsAfter s (lengthsWith w v records) (outcomeIn r)
+pub record Examines (s : List ℕ) (parameter : ℕ → Bool) (l : Limits) (records : ℕ) (b : FlowBudget) (w w′ v v′ : List ℕ) (r : Examined) : Type 0 where
+  pub answer : outcomeIn r ≡ outcomeOf s parameter l (lengthsWith w v records) b
+  pub sets : v′ ≡ setsAfter s parameter (lengthsWith w v records) (outcomeIn r)
   pub listing : (id : ℕ) (y : Layout) (awaits : ℕ) (left : FlowBudget) → r ≡ Accepted id y awaits left → Listing s records w′ y

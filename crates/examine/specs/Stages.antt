@@ -7,10 +7,17 @@ use Rattle.budget.specs.declared.FlowBudget.{FlowBudget}
 use Rattle.format.specs.declared.refusal.Refusal.{Refusal}
 use Rattle.memory.specs.declared.layout.Layout.{Layout}
 use Rattle.memory.specs.Sets.{SetsRoom}
+use Rattle.sheet.specs.declared.script.Script.{Script}
+use Rattle.sheet.specs.declared.script.Checked.the-variants as checking
+use Rattle.sheet.specs.Checks.{Checks}
 use Rattle.judge.specs.declared.Judged.{Judged}
 use Rattle.judge.specs.declared.Judged.the-variants as judging
 use Rattle.examine.specs.declared.Examined.{Examined}
 use Rattle.examine.specs.declared.Examined.the-variants.{Accepted, Refused}
+
+-- a sheet passed the checks as this script
+abbrev pub PassedAs : List ℕ → Script → Type 0
+PassedAs s x = Checks s (checking.Passed x)
 
 -- as many zeros as there are words
 abbrev pub zeros : List ℕ → List ℕ

@@ -7,10 +7,13 @@ use format::refusal::Refusal;
 use judge::Judged;
 use memory::layout::Layout;
 use sheet::script::Checked;
+use sheet::script::Script;
 ghost use mathlib.Core.Path.{_≡_};
-ghost use Prim.Native.Nat.{_-_, _^_, _<_};
+ghost use Rattle.budget.specs.Budget.{counted};
+ghost use Rattle.sheet.specs.Decode.{partsOf};
+ghost use Rattle.starts.specs.Starts.{parameterWith};
 ghost use Rattle.examine.specs.Examine.{Examines};
-ghost use Rattle.examine.specs.Stages.{zeros, cutAt, answerWords, Acceptable, Finishing, Finishes};
+ghost use Rattle.examine.specs.Stages.{PassedAs, zeros, cutAt, answerWords, Acceptable, Finishing, Finishes};
 
 // Accepted with the function's id, the layout of scratch, how many awaits are reached, and the budget; or refused with the id and the budget.
 pub enum Examined {
@@ -18,26 +21,43 @@ pub enum Examined {
     Refused(Refusal, u32, FlowBudget),
 }
 
-// The sheet checks, then the judging. After a refusal the sets buffer is zero; after acceptance it holds the answer and then zeros, and scratch the
-// blocks. The caller clears scratch. `records` is how many block records are lent.
+// The sheet checks, then the judging, with the slots of `added` as parameters beside the sheet's own (words that it lacks count as zero, and what is
+// no slot is not looked at), and with each limit at most today's. After a refusal the sets buffer is zero; after acceptance it holds the answer and
+// then zeros, and scratch the blocks. The caller clears scratch. `records` is how many block records are lent.
 pub fn examine(
     sheet: &[u8],
+    added: &[u64],
+    limits: Limits,
+    budget: FlowBudget,
     s: &mut [u64],
     t: &mut [u64],
     records: usize,
-    limits: Limits,
-    budget: FlowBudget,
 ) -> Examined
-    requires { ⌜ limits .work < 2 ^ 64 - 1 ⌝ }
-    ensures { λ r. ⌜ Examines (now (sheet .entry)) limits records budget (now (s .entry)) (now (s .exit)) (now (t .entry)) (now (t .exit)) r ⌝ }
+    ensures { λ r. ⌜ Examines (now (sheet .entry)) (parameterWith (partsOf (now (sheet .entry))) (now (added .entry))) (counted limits) records budget (now (s .entry)) (now (s .exit)) (now (t .entry)) (now (t .exit)) r ⌝ }
 {
     match sheet::check(sheet) {
         Checked::Refused(r, id) => refuse(t, r, id, budget),
-        Checked::Passed(script) => {
-            let j = judge::judge(sheet, s, t, script, records, limits, budget);
-            finish(t, script.id, j)
-        }
+        Checked::Passed(script) => passed(sheet, script, added, limits, budget, s, t, records),
     }
+}
+
+// The same of a sheet that passed the checks: for an entry that asks more of the script before it is judged.
+pub fn passed(
+    sheet: &[u8],
+    script: Script,
+    added: &[u64],
+    limits: Limits,
+    budget: FlowBudget,
+    s: &mut [u64],
+    t: &mut [u64],
+    records: usize,
+) -> Examined
+    requires { ⌜ PassedAs (now sheet) script ⌝ }
+    ensures { λ r. ⌜ Examines (now (sheet .entry)) (parameterWith (partsOf (now (sheet .entry))) (now (added .entry))) (counted limits) records budget (now (s .entry)) (now (s .exit)) (now (t .entry)) (now (t .exit)) r ⌝ }
+{
+    let l = limits.counted();
+    let j = judge::judge(sheet, added, s, t, script, records, l, budget);
+    finish(t, script.id, j)
 }
 
 // The answer of the judging, and the sets buffer as it asks.

@@ -29,9 +29,9 @@ use Rattle.block_records.proofs.RecordLaws.{listed-in, listed-behind}
 use Rattle.examine.specs.Examine.{outcomeIn, Listing, Examines}
 use Rattle.examine.specs.declared.Examined.{Examined}
 use Rattle.examine.specs.declared.Examined.the-variants.{Accepted, Refused}
-use Rattle.flow.specs.declared.Answer.{Answer}
-use Rattle.flow.specs.Verify.{answerIn, layoutIn}
-use Rattle.flow.proofs.VerifyLaws.{told}
+use Rattle.answers.specs.declared.Answer.{Answer}
+use Rattle.answers.specs.Answers.{outcomeBy, answerIn, layoutIn}
+use Rattle.answers.proofs.AnswerLaws.{own-slots, same-outcome, verified}
 use Rattle.flow_blocks.specs.BlocksVerify.{blockOf, sheetBlock, blocksAfter, lengthsOf, BlocksVerified}
 use Rattle.flow_blocks.proofs.Bounds.{small-start, small-flag, small-count, small-successor}
 
@@ -73,10 +73,10 @@ cut-none a b c d e f la lb lc ld le lf =
     let ef : f % 2 ^ 32 ≡ f = omega arith in rw (ea, eb, ec, ed, ee, ef) refl
 
 -- a block's words, where they are its record
-block-is : (s : List ℕ) (x : Script) → Sound s x → (words : ℕ) (m : Mem) (c : ℕ)
-    → recordIn m c ≡ blockRecord (flowCode (partsOf s)) (parameterIn (partsOf s)) words c → blockIn m c ≡ sheetBlock s c
+block-is : (s : List ℕ) (x : Script) → Sound s x → (m : Mem) (c : ℕ)
+    → recordIn m c ≡ blockRecord (flowCode (partsOf s)) c → blockIn m c ≡ sheetBlock s c
 unfolding cutBlock
-block-is s x ok words m c e =
+block-is s x ok m c e =
     ap cutBlock e
     ∙ cut-none (getD (leaders (flowCode (partsOf s))) c (length (flowCode (partsOf s)))) (getD (leaders (flowCode (partsOf s))) (suc c) (length (flowCode (partsOf s))))
     (flag (reachable (flowCode (partsOf s)) c)) (length (blockSuccessors (flowCode (partsOf s)) c)) (getD (blockSuccessors (flowCode (partsOf s)) c) 0 0) (getD (blockSuccessors (flowCode (partsOf s)) c) 1 0)
@@ -85,7 +85,7 @@ block-is s x ok words m c e =
 -- ---- the call
 
 module _ (s : List ℕ) (b : FlowBudget) (list : List Block) (v w w₁ v′ : List ℕ) (e : Examined)
-    (h : Examines s todays (length list) b w w₁ v v′ e) where
+    (h : Examines s (parameterIn (partsOf s)) todays (length list) b w w₁ v v′ e) where
   abbrev n : Lengths
   n = lengthsOf list v w
 
@@ -96,19 +96,14 @@ module _ (s : List ℕ) (b : FlowBudget) (list : List Block) (v w w₁ v′ : Li
       ∙ ap (λ (k : ℕ). replicate k zeroBlock) (let z : length list - 0 ≡ length list = omega arith in z)
   list-after (Accepted id y awaits left) q =
       let g : Listing s (length list) w₁ y = h .listing id y awaits left q in
-      let ok : Sound s (scriptOf s) = accepted-sound s todays n b id (y .blocks) awaits left (sym (h .answer) ∙ ap outcomeIn q) in
-      blocks-then-zeros (scratch y w₁) (sheetBlock s) (y .blocks) (λ c lt. block-is s (scriptOf s) ok (y .words) (scratch y w₁) c (g .record-is c lt)) (length list) (g .lent)
+      let ok : Sound s (scriptOf s) = accepted-sound s (parameterIn (partsOf s)) todays n b id (y .blocks) awaits left (sym (h .answer) ∙ ap outcomeIn q) in
+      blocks-then-zeros (scratch y w₁) (sheetBlock s) (y .blocks) (λ c lt. block-is s (scriptOf s) ok (scratch y w₁) c (g .record-is c lt)) (length list) (g .lent)
 
   pub blocks-verified : (list′ : List Block) (w′ : List ℕ) (r : Answer) (y : Layout) → y ≡ layoutIn e
       → list′ ≡ tabulate 0 (length list) (listedBlock (scratch y w₁) (y .blocks)) → (r ≡ answerIn e) × (w′ ≡ replicate (length w₁) 0)
       → length w₁ ≡ length w → BlocksVerified s b list list′ v v′ w w′ r
-  blocks-verified list′ w′ r y ey filled (is, cleared) long =
-      let t = told h r is in
-      record {
-        answer = t .answer;
-        table = t .table;
-        blocks = filled ∙ ap (λ (z : Layout). tabulate 0 (length list) (listedBlock (scratch z w₁) (z .blocks))) ey ∙ list-after e refl ∙ ap (blocksAfter s n) (sym (t .same));
-        sets = t .sets;
-        scratch = cleared ∙ ap (λ (k : ℕ). replicate k 0) long;
-        demands = t .demands;
-      }
+  blocks-verified list′ w′ r y ey filled (is, cleared) long = record {
+    verified = verified (own-slots s) h r is cleared long;
+    blocks = filled ∙ ap (λ (z : Layout). tabulate 0 (length list) (listedBlock (scratch z w₁) (z .blocks))) ey ∙ list-after e refl
+        ∙ ap (blocksAfter s n) (sym (ap outcomeBy is ∙ same-outcome e));
+  }

@@ -1,22 +1,19 @@
--- The contract of `verify`: as that of crate flow, with the block list as structs.
+-- The contract of `verify`: that of every form of the call, and the block list as structs.
 use mathlib.Core.Path.{_≡_}
-use mathlib.Core.Logic.{_↔_}
 use mathlib.Core.List.{List, _++_}
-use Prim.Native.Nat.{ℕ, _+_, _-_, _/_}
+use Prim.Native.Nat.{ℕ, _-_}
 use lib.ListN.{length, getD, replicate}
 use Rattle.dataflow.specs.Lists.{tabulate}
 use Rattle.budget.specs.declared.FlowBudget.{FlowBudget}
 use Rattle.budget.specs.Budget.{todays}
 use Rattle.sheet.specs.Decode.{partsOf}
 use Rattle.script.specs.Script.{flowCode, parameterIn}
-use Rattle.outcome.specs.Outcome.{Lengths, lengthsWith, Outcome, accepted, refused, outcomeOf}
-use Rattle.outcome.specs.Buffers.{blockRecord, setsAfter, scratchAfter}
-use Rattle.demands.specs.Demands.{Demands}
-use Rattle.demands.specs.Table.{Due}
+use Rattle.outcome.specs.Outcome.{Lengths, lengthsWith, Outcome, accepted, refused}
+use Rattle.outcome.specs.Buffers.{blockRecord}
 use Rattle.block_records.specs.declared.Block.{Block}
 use Rattle.block_records.specs.Records.{zeroBlock}
-use Rattle.flow.specs.declared.Answer.{Answer}
-use Rattle.flow.specs.Verify.{outcomeBy}
+use Rattle.answers.specs.declared.Answer.{Answer}
+use Rattle.answers.specs.Answers.{outcomeBy, Verified}
 
 -- the struct of a block record: its six numbers, in their order
 abbrev pub blockOf : List ℕ → Block
@@ -32,7 +29,7 @@ blockOf l = record {
 module _ (s : List ℕ) where
   -- block c of the sheet
   abbrev pub sheetBlock : ℕ → Block
-  sheetBlock c = blockOf (blockRecord (flowCode (partsOf s)) (parameterIn (partsOf s)) ((partsOf s .slots + 63) / 64) c)
+  sheetBlock c = blockOf (blockRecord (flowCode (partsOf s)) c)
 
   -- the block list: after acceptance the blocks, then zeros; after a refusal zeros
   abbrev pub blocksAfter : Lengths → Outcome → List Block
@@ -45,13 +42,7 @@ lengthsOf list v w = lengthsWith w v (length list)
 
 -- What `verify` does with a sheet s, a budget b, the block list, and the words of the sets buffer and of scratch (primed: at exit).
 pub record BlocksVerified (s : List ℕ) (b : FlowBudget) (list list′ : List Block) (v v′ w w′ : List ℕ) (r : Answer) : Type 0 where
-  -- the answer is the defined one
-  pub answer : outcomeBy r ≡ outcomeOf s todays (lengthsOf list v w) b
-  -- each answer is given exactly if the refusal table says so, in its order, with its budget
-  pub table : (o : Outcome) → Due s todays (lengthsOf list v w) b o ↔ (outcomeBy r ≡ o)
-  -- what each buffer holds, on every outcome
+  -- the answer, the sets buffer and scratch: with the sheet's own parameters and today's limits
+  pub verified : Verified s (parameterIn (partsOf s)) todays (lengthsOf list v w) b (outcomeBy r) v′ w′
+  -- what the block list holds, on every outcome
   pub blocks : list′ ≡ blocksAfter s (lengthsOf list v w) (outcomeBy r)
-  pub sets : v′ ≡ setsAfter s (lengthsOf list v w) (outcomeBy r)
-  pub scratch : w′ ≡ scratchAfter s (lengthsOf list v w)
-  -- demands 2 and 3, of the answer and of the sets buffer as it is left
-  pub demands : Demands s (outcomeBy r) v′

@@ -27,11 +27,12 @@ use Rattle.format.specs.declared.refusal.Refusal.the-variants.{
   FactsLimit,
 }
 use Rattle.outcome.specs.Outcome.{Outcome, accepted, refused}
-use Rattle.outcome.specs.Buffers.{setsAfter}
-use Rattle.demands.specs.Demands.{Demands}
+use Rattle.budget.specs.Budget.{todays}
+use Rattle.sheet.specs.Decode.{partsOf}
+use Rattle.script.specs.Script.{parameterIn}
 use Rattle.block_records.specs.declared.Block.{Block}
-use Rattle.flow.specs.declared.Answer.{Answer}
-use Rattle.flow.specs.Verify.{outcomeBy}
+use Rattle.answers.specs.declared.Answer.{Answer}
+use Rattle.answers.specs.Answers.{outcomeBy, Verified}
 use Rattle.flow_blocks.specs.BlocksVerify.{blocksAfter, lengthsOf, BlocksVerified}
 use Rattle.flow_c.specs.declared.FlowAnswer.{FlowAnswer}
 use Rattle.flow_c.specs.Exports.{answerOf, HostVerified}
@@ -94,10 +95,8 @@ answer-one o p e = sym (back-is o) ∙ ap back e ∙ back-is p
 pub hosted : (s : List ℕ) (c b : FlowBudget) (list list′ : List Block) (v v′ w w′ : List ℕ) (a : Answer) (r : FlowAnswer) → c ≡ b
     → BlocksVerified s c list list′ v v′ w w′ a → r ≡ answerOf (outcomeBy a) → HostVerified s b list list′ v v′ w w′ r
 hosted s c b list list′ v v′ w w′ a r q h e = subst (λ (d : FlowBudget). HostVerified s d list list′ v v′ w w′ r) q (record {
-  answer = e ∙ ap answerOf (h .answer);
-  table = λ o. (λ due. e ∙ ap answerOf (h .table o .0 due), λ p. h .table o .1 (answer-one (outcomeBy a) o (sym e ∙ p)));
-  blocks = h .blocks ∙ ap (blocksAfter s (lengthsOf list v w)) (h .answer);
-  sets = h .sets ∙ ap (setsAfter s (lengthsOf list v w)) (h .answer);
-  scratch = h .scratch;
-  demands = subst (λ (o : Outcome). Demands s o v′) (h .answer) (h .demands);
+  answer = e ∙ ap answerOf (h .verified .answer);
+  table = λ o. (λ due. e ∙ ap answerOf (h .verified .table o .0 due), λ p. h .verified .table o .1 (answer-one (outcomeBy a) o (sym e ∙ p)));
+  verified = subst (λ (o : Outcome). Verified s (parameterIn (partsOf s)) todays (lengthsOf list v w) c o v′ w′) (h .verified .answer) (h .verified);
+  blocks = h .blocks ∙ ap (blocksAfter s (lengthsOf list v w)) (h .verified .answer);
 })

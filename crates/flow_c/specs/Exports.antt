@@ -6,11 +6,12 @@ use Prim.Native.Nat.{ℕ}
 use Rattle.budget.specs.declared.FlowBudget.{FlowBudget}
 use Rattle.budget.specs.Budget.{todays}
 use Rattle.format.specs.Refusals.{numberOf}
+use Rattle.sheet.specs.Decode.{partsOf}
+use Rattle.script.specs.Script.{parameterIn}
 use Rattle.outcome.specs.Outcome.{Outcome, accepted, refused, outcomeOf}
-use Rattle.outcome.specs.Buffers.{setsAfter, scratchAfter}
-use Rattle.demands.specs.Demands.{Demands}
 use Rattle.demands.specs.Table.{Due}
 use Rattle.block_records.specs.declared.Block.{Block}
+use Rattle.answers.specs.Answers.{Verified}
 use Rattle.flow_blocks.specs.BlocksVerify.{blocksAfter, lengthsOf}
 use Rattle.flow_c.specs.declared.HostBudget.{HostBudget}
 use Rattle.flow_c.specs.declared.FlowAnswer.{FlowAnswer}
@@ -38,15 +39,17 @@ answerOf (refused r id b) = record {
   retained = b .retained;
 }
 
+-- the answer that is defined
+abbrev pub definedOutcome : List ℕ → FlowBudget → List Block → List ℕ → List ℕ → Outcome
+definedOutcome s b list v w = outcomeOf s (parameterIn (partsOf s)) todays (lengthsOf list v w) b
+
 -- What the call does with a sheet s, a budget b, the block list, and the words of the sets buffer and of scratch (primed: at exit).
 pub record HostVerified (s : List ℕ) (b : FlowBudget) (list list′ : List Block) (v v′ w w′ : List ℕ) (r : FlowAnswer) : Type 0 where
-  -- the answer is the defined one
-  pub answer : r ≡ answerOf (outcomeOf s todays (lengthsOf list v w) b)
+  -- the answer is the defined one, in numbers
+  pub answer : r ≡ answerOf (definedOutcome s b list v w)
   -- each answer is given exactly if the refusal table says so, in its order, with its budget
-  pub table : (o : Outcome) → Due s todays (lengthsOf list v w) b o ↔ (r ≡ answerOf o)
-  -- what each buffer holds, on every outcome
-  pub blocks : list′ ≡ blocksAfter s (lengthsOf list v w) (outcomeOf s todays (lengthsOf list v w) b)
-  pub sets : v′ ≡ setsAfter s (lengthsOf list v w) (outcomeOf s todays (lengthsOf list v w) b)
-  pub scratch : w′ ≡ scratchAfter s (lengthsOf list v w)
-  -- demands 2 and 3, of the answer and of the sets buffer as it is left
-  pub demands : Demands s (outcomeOf s todays (lengthsOf list v w) b) v′
+  pub table : (o : Outcome) → Due s (parameterIn (partsOf s)) todays (lengthsOf list v w) b o ↔ (r ≡ answerOf o)
+  -- the sets buffer and scratch: with the sheet's own parameters and today's limits
+  pub verified : Verified s (parameterIn (partsOf s)) todays (lengthsOf list v w) b (definedOutcome s b list v w) v′ w′
+  -- what the block list holds, on every outcome
+  pub blocks : list′ ≡ blocksAfter s (lengthsOf list v w) (definedOutcome s b list v w)

@@ -1,9 +1,9 @@
 // The call for hosts in C and Rust.
+use answers::Answer;
 use block_records::Block;
 use budget::FlowBudget;
-use flow::Answer;
 ghost use mathlib.Core.Path.{_≡_};
-ghost use Rattle.flow.specs.Verify.{outcomeBy};
+ghost use Rattle.answers.specs.Answers.{outcomeBy};
 ghost use Rattle.flow_c.specs.Exports.{budgetOf, answerOf, HostVerified};
 
 // Work charged and bytes retained so far.

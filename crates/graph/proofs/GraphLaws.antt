@@ -1,11 +1,13 @@
 -- The stages one after the other: what each does, from what its calls do. Assumes nothing.
 use mathlib.Core.Path.{_≡_, sym, ap, subst, _∙_}
+use mathlib.Core.Bool.{Bool}
 use mathlib.Core.List.{List, _++_}
 use mathlib.Core.Logic.{inl}
 use Prim.Native.Nat.{ℕ, _+_, _≤_, _<_}
 use native.Mathlib.Omega.{arith}
-use lib.ListN.{length, take, replicate, length-replicate}
+use lib.ListN.{length, take}
 use Rattle.bitset.specs.Rows.{patched}
+use Rattle.bitset.specs.Sets.{member}
 use Rattle.dataflow.specs.Code.{blockSuccessors}
 use Rattle.dataflow.specs.Charges.{operandCharges, reachabilityCharges}
 use Rattle.budget.specs.declared.FlowBudget.{FlowBudget}
@@ -25,10 +27,8 @@ use Rattle.memory.proofs.CellLaws.{cell-store-same, cell-store-other}
 use Rattle.memory.proofs.CellRows.{Lies, lies-fits, lies-patched}
 use Rattle.memory.proofs.ScratchLaws.{row-lies, scratch-length}
 use Rattle.sheet.specs.declared.script.Script.{Script}
-use Rattle.sheet.specs.Decode.{Parts, partsOf}
+use Rattle.sheet.specs.Decode.{partsOf}
 use Rattle.instructions.specs.Sound.{Sound}
-use Rattle.instructions.specs.Sets.{parameterRow}
-use Rattle.instructions.proofs.SetSteps.{length-all}
 use Rattle.script.specs.Script.{flowCode}
 use Rattle.edges.specs.Edges.{Holds, Held}
 use Rattle.edges.specs.Predecessors.{Linked}
@@ -41,7 +41,7 @@ use Rattle.rooms.specs.declared.Staged.{Staged}
 use Rattle.rooms.specs.declared.Staged.the-variants.{Ok, Refused}
 use Rattle.rooms.specs.Rooms.{ifMet, Indexes, Measured}
 use Rattle.rooms.proofs.RoomLaws.{over-refused}
-use Rattle.graph.specs.Graph.{ifOk, stage, graphOf, Holding, Graphed, Joined, Reaches, Built}
+use Rattle.graph.specs.Graph.{ifOk, stage, graphOf, Holding, Graphed, Parameters, Joined, Reaches, Built}
 use Rattle.graph.proofs.HoldingLaws.{some-block, blocks-hold, joined-hold, all-held}
 
 -- ---- a row of scratch
@@ -66,23 +66,17 @@ module _ (y : Layout) (w : List ℕ) (room : Room y (length w)) {k base n : ℕ}
 pub parameters-row : (y : Layout) → Row y (parametersRow (y .blocks))
 parameters-row y = record { low = omega arith; high = omega arith }
 
--- as wide as asked
-pub parameters-long : (p : Parts) (w : ℕ) → length (parameterRow p w) ≡ w
-unfolding parameterRow
-parameters-long p w = length-all (p .params) (replicate w 0) ∙ length-replicate w 0
-
 -- ---- `join`
 
 -- the predecessors, then the row
-pub joined : (s : List ℕ) (y : Layout) (m : Mem) (w w′ : List ℕ) → Linked y m (scratch y w)
-    → scratch y w′ ≡ storeCell (scratch y w) (parametersRow (y .blocks)) (parameterRow (partsOf s) (y .words)) → Joined s y m (scratch y w′)
-joined s y m w w′ f e = record {
+pub joined : {parameter : ℕ → Bool} (y : Layout) (m : Mem) (w w′ : List ℕ) → Linked y m (scratch y w)
+    → Parameters parameter y (scratch y w) (scratch y w′) → Joined parameter y m (scratch y w′)
+joined y m w w′ f e = record {
   between = scratch y w;
   linked = f;
-  parameters = ap (λ (v : Mem). cell v (parametersRow (y .blocks))) e
-      ∙ cell-store-same (scratch y w) (parametersRow (y .blocks)) (parameterRow (partsOf s) (y .words)) (omega (arith, scratch-length y w));
-  others = λ k ne. ap (λ (v : Mem). cell v k) e
-      ∙ cell-store-other (scratch y w) (parametersRow (y .blocks)) (parameterRow (partsOf s) (y .words)) k ne;
+  parameters = λ i. ap (λ (r : List ℕ). member r i) (ap (λ (v : Mem). cell v (parametersRow (y .blocks))) (e .stored)
+      ∙ cell-store-same (scratch y w) (parametersRow (y .blocks)) (e .row) (omega (arith, scratch-length y w))) ∙ e .members i;
+  others = λ k ne. ap (λ (v : Mem). cell v k) (e .stored) ∙ cell-store-other (scratch y w) (parametersRow (y .blocks)) (e .row) k ne;
 }
 
 -- ---- `reach`
@@ -118,10 +112,10 @@ module _ (l : Limits) (b : FlowBudget) (cs ds : List ℕ) (y : Layout) (c : Char
 
 -- ---- `build`
 
-module _ (s : List ℕ) (x : Script) (y : Layout) (l : Limits) (b : FlowBudget) (m m₁ t t₁ : Mem) (c : Charged)
+module _ (s : List ℕ) (parameter : ℕ → Bool) (x : Script) (y : Layout) (l : Limits) (b : FlowBudget) (m m₁ t t₁ : Mem) (c : Charged)
     (g : building.Built (flowCode (partsOf s)) y l b m m₁ t t₁ c) where
   -- a charge of the second loop crossed the limit
-  pub built-over : (z : FlowBudget) (r : Staged) → c ≡ charging.Over z → r ≡ Refused WorkLimit (budgetOf c) → Built s x y l b m m₁ t₁ r
+  pub built-over : (z : FlowBudget) (r : Staged) → c ≡ charging.Over z → r ≡ Refused WorkLimit (budgetOf c) → Built s parameter x y l b m m₁ t₁ r
   built-over z r eo er = record {
     answer = er ∙ ap (λ (d : Charged). Refused WorkLimit (budgetOf d)) eo
         ∙ stage-over l b (operandCharges (flowCode (partsOf s))) (reachabilityCharges (flowCode (partsOf s))) y c (g .charges) z eo;
@@ -147,21 +141,21 @@ module _ (s : List ℕ) (x : Script) (y : Layout) (l : Limits) (b : FlowBudget) 
     pub reach-some : 0 < y .blocks
     reach-some = some-block s x y m₁ ready-still (g .blocks left ec)
 
-    module _ (m₂ : Mem) (j : Joined s y m₁ m₂) where
+    module _ (m₂ : Mem) (j : Joined parameter y m₁ m₂) where
       -- the edges are still held
       still-holds : Holds (blockSuccessors (flowCode (partsOf s))) y m₂
-      still-holds = joined-hold s x y m₁ ready-still (g .blocks left ec) m₂ j
+      still-holds = joined-hold s x y m₁ ready-still (g .blocks left ec) parameter m₂ j
 
       -- so `reach` may follow
       pub reach-held : Held y m₂
       reach-held = (blockSuccessors (flowCode (partsOf s)), still-holds)
 
       -- the reachable blocks are marked, or a charge of that crossed the limit
-      pub built-on : (m₃ : Mem) (r : Staged) → Reaches y l left m₂ m₃ r → Built s x y l b m m₃ t₁ r
+      pub built-on : (m₃ : Mem) (r : Staged) → Reaches y l left m₂ m₃ r → Built s parameter x y l b m m₃ t₁ r
       built-on m₃ r f = record {
         answer = f .answer ∙ ap (λ (d : Charged). ifMet d (Ok y)) charges
             ∙ stage-on l b (operandCharges (flowCode (partsOf s))) (reachabilityCharges (flowCode (partsOf s))) y c (g .charges) left ec;
-        holding = λ y′ left′ q. all-held s x y m₁ ready-still (g .blocks left ec) m₂ j l left left′ m₃ (f .charged-as) (f .reached)
+        holding = λ y′ left′ q. all-held s x y m₁ ready-still (g .blocks left ec) parameter m₂ j l left left′ m₃ (f .charged-as) (f .reached)
             (staged-met (f .charged-as) y y′ left′ (sym (f .answer) ∙ q) .0);
         fresh = λ y′ left′ q. record {
           initialized = λ d h. g .fresh left ec d h .initialized;
@@ -176,7 +170,7 @@ module _ (s : List ℕ) (x : Script) (y : Layout) (l : Limits) (b : FlowBudget) 
 
 -- ---- `graph`
 
-module _ (s : List ℕ) (x : Script) (l : Limits) (records : ℕ) (b : FlowBudget) (w w₁ v : List ℕ) (c : Staged)
+module _ (s : List ℕ) (parameter : ℕ → Bool) (x : Script) (l : Limits) (records : ℕ) (b : FlowBudget) (w w₁ v : List ℕ) (c : Staged)
     (g : Measured s x l (record { sets = length v; records = records }) b w w₁ c) where
   -- the answer is what follows that of `measure`
   answer-on : ifOk c (stage l (operandCharges (flowCode (partsOf s)) ++ reachabilityCharges (flowCode (partsOf s))))
@@ -186,7 +180,7 @@ module _ (s : List ℕ) (x : Script) (l : Limits) (records : ℕ) (b : FlowBudge
       ap (λ (d : Staged). ifOk d (stage l (operandCharges (flowCode (partsOf s)) ++ reachabilityCharges (flowCode (partsOf s))))) (g .answer)
 
   -- refused before the blocks are built
-  pub graphed-refused : (n : Refusal) (z : FlowBudget) (v′ : List ℕ) → c ≡ Refused n z → Graphed s x l records b w w₁ v v′ c
+  pub graphed-refused : (n : Refusal) (z : FlowBudget) (v′ : List ℕ) → c ≡ Refused n z → Graphed s parameter x l records b w w₁ v v′ c
   graphed-refused n z v′ e = record {
     answer = e ∙ ap (λ (d : Staged). ifOk d (stage l (operandCharges (flowCode (partsOf s)) ++ reachabilityCharges (flowCode (partsOf s))))) (sym e)
         ∙ answer-on;
@@ -206,8 +200,8 @@ module _ (s : List ℕ) (x : Script) (l : Limits) (records : ℕ) (b : FlowBudge
         (indexes .room, indexes .sets-room, record { sound = sound; fits = indexes .fits; index = indexes .index })
 
     -- the blocks are built, or a charge of that crossed the limit
-    pub graphed-on : (w₂ v₂ : List ℕ) (r : Staged) → length w₂ ≡ length w₁ → Built s x y l left (scratch y w₁) (scratch y w₂) (sets y v₂) r
-        → Graphed s x l records b w w₂ v v₂ r
+    pub graphed-on : (w₂ v₂ : List ℕ) (r : Staged) → length w₂ ≡ length w₁ → Built s parameter x y l left (scratch y w₁) (scratch y w₂) (sets y v₂) r
+        → Graphed s parameter x l records b w w₂ v v₂ r
     graphed-on w₂ v₂ r long f = record {
       answer = f .answer
           ∙ ap (λ (d : Staged). ifOk d (stage l (operandCharges (flowCode (partsOf s)) ++ reachabilityCharges (flowCode (partsOf s))))) (sym ec)
@@ -221,7 +215,7 @@ module _ (s : List ℕ) (x : Script) (l : Limits) (records : ℕ) (b : FlowBudge
             records = indexes .records;
             index = f .holding y′ left′ q .index;
           });
-      holding = λ y′ left′ q. subst (λ (z : Layout). Holding s x z (scratch z w₂)) (same y′ left′ q) (f .holding y′ left′ q);
+      holding = λ y′ left′ q. subst (λ (z : Layout). Holding s parameter x z (scratch z w₂)) (same y′ left′ q) (f .holding y′ left′ q);
       fresh = λ y′ left′ q. subst (λ (z : Layout). Fresh z (sets z v₂)) (same y′ left′ q) (f .fresh y′ left′ q);
     }
       where

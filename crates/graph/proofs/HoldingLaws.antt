@@ -1,7 +1,7 @@
 -- What the words of scratch hold of a script once its blocks are built, its edges joined and its reachable blocks marked. Assumes nothing.
-use mathlib.Core.Path.{_≡_, refl, ap, _∙_}
+use mathlib.Core.Path.{_≡_, ap, _∙_}
 use mathlib.Core.Bool.{Bool, false}
-use mathlib.Core.List.{List, [], _∷_}
+use mathlib.Core.List.{List}
 use Prim.Native.Nat.{ℕ, _+_, _*_, _≤_, _<_}
 use native.Mathlib.Omega.{arith}
 use lib.ListN.{length, getD}
@@ -37,7 +37,6 @@ use Rattle.memory.specs.declared.layout.Layout.{Layout}
 use Rattle.memory.proofs.CellLaws.{same-word}
 use Rattle.sheet.specs.declared.script.Script.{Script}
 use Rattle.sheet.specs.Decode.{partsOf}
-use Rattle.instructions.proofs.SetMembers.{parameters-in-row}
 use Rattle.script.specs.Script.{flowCode, parameterIn}
 use Rattle.script.proofs.ScriptLaws.{checked}
 use Rattle.edges.specs.Edges.{Holds}
@@ -47,7 +46,6 @@ use Rattle.edges.specs.Flow.{Flows}
 use Rattle.edges.proofs.EdgeLaws.{holds-kept}
 use Rattle.edges.proofs.ResultLaws.{linked-holds, reached-holds, chained-kept, reached-chained}
 use Rattle.blocks.specs.Blocks.{Ready, Block}
-use Rattle.blocks.proofs.MemberLaws.{among-elem}
 use Rattle.blocks.proofs.ReadLaws.{targets-everywhere}
 use Rattle.blocks.proofs.CodeLaws.{few-successors}
 use Rattle.memory.proofs.EdgeLaws.{successor-few}
@@ -97,7 +95,7 @@ module _ (s : List ℕ) (x : Script) (y : Layout) (m₁ : Mem) (ready : Ready s 
 
   -- ---- the edges joined
 
-  module _ (m₂ : Mem) (j : Joined s y m₁ m₂) where
+  module _ (parameter : ℕ → Bool) (m₂ : Mem) (j : Joined parameter y m₁ m₂) where
     -- a cell that `join` does not write
     joined-kept : (k : ℕ) → (k ≡ firstEdgeCell → ⊥) → (k ≡ predecessorCountCell → ⊥) → (k ≡ nextEdgeCell → ⊥)
         → (k ≡ parametersRow (y .blocks) → ⊥) → cell m₂ k ≡ cell m₁ k
@@ -132,23 +130,21 @@ module _ (s : List ℕ) (x : Script) (y : Layout) (m₁ : Mem) (ready : Ready s 
       kept-row k a b = kept k (λ e. omega arith) (λ e. omega arith) (λ e. omega arith) (λ e. omega arith) (λ e. omega arith) (λ e. omega arith)
 
       -- each block's words and rows
-      block-still : (c : ℕ) → c < y .blocks → Block (flowCode (partsOf s)) (parameterIn (partsOf s)) m₃ c
+      block-still : (c : ℕ) → c < y .blocks → Block (flowCode (partsOf s)) parameter m₃ c
       block-still c h =
           block-kept (kept-low costCell (omega arith)) (kept-low startCell (omega arith)) (kept-low endCell (omega arith))
           (kept successorCountCell (λ e. omega arith) (λ e. omega arith) (λ e. omega arith) (λ e. omega arith) (λ e. omega arith) (λ e. omega arith))
           (kept successorCell (λ e. omega arith) (λ e. omega arith) (λ e. omega arith) (λ e. omega arith) (λ e. omega arith) (λ e. omega arith))
           (kept-row (usesRow c) (omega arith) (omega arith)) (kept-row (definesRow c) (omega arith) (omega arith))
-          (built (parameterIn (partsOf s)) c h)
+          (built parameter c h)
 
       -- the row of the parameters
-      parameters-still : (i : ℕ) → member (cell m₃ (parametersRow (y .blocks))) i ≡ parameterIn (partsOf s) i
-      unfolding parameterIn
+      parameters-still : (i : ℕ) → member (cell m₃ (parametersRow (y .blocks))) i ≡ parameter i
       parameters-still i =
-          ap (λ (ws : List ℕ). member ws i) (g .others (parametersRow (y .blocks)) (λ e. omega arith) (λ e. omega arith) ∙ j .parameters)
-          ∙ parameters-in-row s x (ready .sound) (y .words) (ready .fits .slots) i ∙ among-elem i (partsOf s .params)
+          ap (λ (ws : List ℕ). member ws i) (g .others (parametersRow (y .blocks)) (λ e. omega arith) (λ e. omega arith)) ∙ j .parameters i
 
       -- the flow graph
-      flows : Flows (flowCode (partsOf s)) (parameterIn (partsOf s)) y m₃
+      flows : Flows (flowCode (partsOf s)) parameter y m₃
       flows = record {
         blocks = ready .fits .blocks;
         holds = reached-holds g joined-hold;
@@ -161,7 +157,7 @@ module _ (s : List ℕ) (x : Script) (y : Layout) (m₁ : Mem) (ready : Ready s 
       }
 
       -- all of it
-      pub all-held : Holding s x y m₃
+      pub all-held : Holding s parameter x y m₃
       all-held = record {
         index = ready-kept ready (kept-low offsetCell (omega arith)) (kept-low blockOfCell (omega arith)) (kept-low leaderCell (omega arith)) .index;
         block = block-still;

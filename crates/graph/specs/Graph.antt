@@ -1,23 +1,24 @@
 -- `graph` and `reachability` of flow.rs: the answer, and what both buffers hold where it goes on.
 use mathlib.Core.Path.{_≡_}
+use mathlib.Core.Bool.{Bool}
 use mathlib.Core.List.{List, _∷_, _++_}
 use Prim.Native.Nat.{ℕ, _<_}
 use lib.ListN.{length}
+use Rattle.bitset.specs.Sets.{member}
 use Rattle.dataflow.specs.Charges.{leaderCharges, operandCharges, reachabilityCharges}
 use Rattle.dataflow.specs.Results.{blockCount}
 use Rattle.budget.specs.declared.FlowBudget.{FlowBudget}
 use Rattle.budget.specs.declared.Limits.{Limits}
 use Rattle.budget.specs.declared.Charged.{Charged}
 use Rattle.budget.specs.Budget.{charged}
-use Rattle.memory.specs.Cells.{Mem, cell}
+use Rattle.memory.specs.Cells.{Mem, cell, storeCell}
 use Rattle.memory.specs.Names.{parametersRow}
 use Rattle.memory.specs.declared.layout.Layout.{Layout}
 use Rattle.memory.specs.Scratch.{scratch}
 use Rattle.memory.specs.Sets.{sets}
 use Rattle.sheet.specs.declared.script.Script.{Script}
 use Rattle.sheet.specs.Decode.{partsOf}
-use Rattle.instructions.specs.Sets.{parameterRow}
-use Rattle.script.specs.Script.{flowCode, parameterIn}
+use Rattle.script.specs.Script.{flowCode}
 use Rattle.leaders.specs.Index.{Indexed}
 use Rattle.edges.specs.Predecessors.{Linked}
 use Rattle.edges.specs.Reachability.{Reached}
@@ -43,24 +44,30 @@ graphOf s x l lent n b =
     ifOk (ifMet (charged l b (0 ∷ leaderCharges (flowCode (partsOf s)))) (roomsOf l (layoutOf x (blockCount (flowCode (partsOf s)))) n lent))
     (stage l (operandCharges (flowCode (partsOf s)) ++ reachabilityCharges (flowCode (partsOf s))))
 
--- what the words of scratch hold of a script: its index, every block, the flow graph
-pub record Holding (s : List ℕ) (x : Script) (y : Layout) (m : Mem) : Type 0 where
+-- what the words of scratch hold of a script with whatever set of parameters: its index, every block, the flow graph
+pub record Holding (s : List ℕ) (parameter : ℕ → Bool) (x : Script) (y : Layout) (m : Mem) : Type 0 where
   pub index : Indexed s x m
-  pub block : (c : ℕ) → c < y .blocks → Block (flowCode (partsOf s)) (parameterIn (partsOf s)) m c
-  pub flows : Flows (flowCode (partsOf s)) (parameterIn (partsOf s)) y m
+  pub block : (c : ℕ) → c < y .blocks → Block (flowCode (partsOf s)) parameter m c
+  pub flows : Flows (flowCode (partsOf s)) parameter y m
 
 -- what `graph` does: w and v are the words of scratch and of the sets buffer
-pub record Graphed (s : List ℕ) (x : Script) (l : Limits) (records : ℕ) (b : FlowBudget) (w w′ v v′ : List ℕ) (r : Staged) : Type 0 where
+pub record Graphed (s : List ℕ) (parameter : ℕ → Bool) (x : Script) (l : Limits) (records : ℕ) (b : FlowBudget) (w w′ v v′ : List ℕ) (r : Staged) : Type 0 where
   pub answer : r ≡ graphOf s x l (record { sets = length v; records = records }) (length w) b
   pub rooms : (y : Layout) (left : FlowBudget) → r ≡ Ok y left → Indexes s x (record { sets = length v; records = records }) w′ y
-  pub holding : (y : Layout) (left : FlowBudget) → r ≡ Ok y left → Holding s x y (scratch y w′)
+  pub holding : (y : Layout) (left : FlowBudget) → r ≡ Ok y left → Holding s parameter x y (scratch y w′)
   pub fresh : (y : Layout) (left : FlowBudget) → r ≡ Ok y left → Fresh y (sets y v′)
 
+-- what `parameters` does: a row that holds them is stored
+pub record Parameters (parameter : ℕ → Bool) (y : Layout) (m m′ : Mem) : Type 0 where
+  pub row : List ℕ
+  pub stored : m′ ≡ storeCell m (parametersRow (y .blocks)) row
+  pub members : (i : ℕ) → member row i ≡ parameter i
+
 -- what `join` does: the predecessors of whatever graph the words hold, then the row of the parameters
-pub record Joined (s : List ℕ) (y : Layout) (m m′ : Mem) : Type 0 where
+pub record Joined (parameter : ℕ → Bool) (y : Layout) (m m′ : Mem) : Type 0 where
   pub between : Mem
   pub linked : Linked y m between
-  pub parameters : cell m′ (parametersRow (y .blocks)) ≡ parameterRow (partsOf s) (y .words)
+  pub parameters : (i : ℕ) → member (cell m′ (parametersRow (y .blocks))) i ≡ parameter i
   pub others : (k : ℕ) → (k ≡ parametersRow (y .blocks) → ⊥) → cell m′ k ≡ cell between k
 
 -- what `reach` does
@@ -70,7 +77,7 @@ pub record Reaches (y : Layout) (l : Limits) (b : FlowBudget) (m m′ : Mem) (r 
   pub answer : r ≡ ifMet charged-as (Ok y)
 
 -- what `build` does
-pub record Built (s : List ℕ) (x : Script) (y : Layout) (l : Limits) (b : FlowBudget) (m m′ t′ : Mem) (r : Staged) : Type 0 where
+pub record Built (s : List ℕ) (parameter : ℕ → Bool) (x : Script) (y : Layout) (l : Limits) (b : FlowBudget) (m m′ t′ : Mem) (r : Staged) : Type 0 where
   pub answer : r ≡ stage l (operandCharges (flowCode (partsOf s)) ++ reachabilityCharges (flowCode (partsOf s))) y b
-  pub holding : (y′ : Layout) (left : FlowBudget) → r ≡ Ok y′ left → Holding s x y m′
+  pub holding : (y′ : Layout) (left : FlowBudget) → r ≡ Ok y′ left → Holding s parameter x y m′
   pub fresh : (y′ : Layout) (left : FlowBudget) → r ≡ Ok y′ left → Fresh y t′

@@ -3,28 +3,26 @@ use budget::Charged;
 use budget::FlowBudget;
 use budget::Limits;
 use format::refusal::Refusal;
-use instructions::sets;
 use memory::layout::Layout;
 use rooms::Lent;
 use rooms::Staged;
 use sheet::script::Script;
-ghost use mathlib.Core.Path.{_≡_};
 ghost use Prim.Native.Nat.{_*_, _≤_, _<_};
 ghost use lib.ListN.{length};
-ghost use Rattle.memory.specs.Cells.{storeCell};
-ghost use Rattle.memory.specs.Names.{parametersRow};
 ghost use Rattle.memory.specs.Scratch.{scratch, Room};
 ghost use Rattle.memory.specs.Sets.{sets, SetsRoom};
 ghost use Rattle.sheet.specs.Decode.{partsOf};
-ghost use Rattle.instructions.specs.Sets.{parameterRow};
 ghost use Rattle.instructions.specs.Sound.{Sound};
+ghost use Rattle.starts.specs.Starts.{parameterWith};
 ghost use Rattle.blocks.specs.Blocks.{Ready};
 ghost use Rattle.edges.specs.Edges.{Held};
-ghost use Rattle.graph.specs.Graph.{Graphed, Joined, Built, Reaches};
+ghost use Rattle.graph.specs.Graph.{Graphed, Parameters, Joined, Built, Reaches};
 
-// The graph of a script in both buffers, or why there is none. `records` is how many block records are lent.
+// The graph of a script in both buffers, or why there is none. `added` is a set of slots that are parameters beside the sheet's own, `records` how many
+// block records are lent.
 pub fn graph(
     sheet: &[u8],
+    added: &[u64],
     s: &mut [u64],
     t: &mut [u64],
     script: Script,
@@ -33,7 +31,7 @@ pub fn graph(
     budget: FlowBudget,
 ) -> Staged
     requires { ⌜ (Sound (now sheet) script) × (4 * script .count ≤ length (now s)) ⌝ }
-    ensures { λ r. ⌜ Graphed (now (sheet .entry)) script limits records budget (now (s .entry)) (now (s .exit)) (now (t .entry)) (now (t .exit)) r ⌝ }
+    ensures { λ r. ⌜ Graphed (now (sheet .entry)) (parameterWith (partsOf (now (sheet .entry))) (now (added .entry))) script limits records budget (now (s .entry)) (now (s .exit)) (now (t .entry)) (now (t .exit)) r ⌝ }
 {
     let lent = Lent {
         sets: t.len(),
@@ -43,12 +41,13 @@ pub fn graph(
     let Staged::Ok(y, left) = m else {
         return m;
     };
-    build(sheet, s, t, script, y, limits, left)
+    build(sheet, added, s, t, script, y, limits, left)
 }
 
 // The blocks, then the edges between them.
 fn build(
     sheet: &[u8],
+    added: &[u64],
     s: &mut [u64],
     t: &mut [u64],
     script: Script,
@@ -57,33 +56,33 @@ fn build(
     budget: FlowBudget,
 ) -> Staged
     requires { ⌜ Room y (length (now s)) × SetsRoom y (length (now t)) × Ready (now sheet) script y (scratch y (now s)) ⌝ }
-    ensures { λ r. ⌜ Built (now (sheet .entry)) script y limits budget (scratch y (now (s .entry))) (scratch y (now (s .exit))) (sets y (now (t .exit))) r ⌝ }
+    ensures { λ r. ⌜ Built (now (sheet .entry)) (parameterWith (partsOf (now (sheet .entry))) (now (added .entry))) script y limits budget (scratch y (now (s .entry))) (scratch y (now (s .exit))) (sets y (now (t .exit))) r ⌝ }
 {
     let c = blocks::blocks::blocks(sheet, s, t, script, y, limits, budget);
     let Charged::Ok(left) = c else {
         return Staged::Refused(Refusal::WorkLimit, c.budget());
     };
-    join(sheet, s, script, y);
+    join(sheet, added, s, script, y);
     reach(s, y, limits, left)
 }
 
 // The predecessors of each block, and the set that block 0 starts from.
-fn join(sheet: &[u8], s: &mut [u64], script: Script, y: Layout)
+fn join(sheet: &[u8], added: &[u64], s: &mut [u64], script: Script, y: Layout)
     requires { ⌜ Room y (length (now s)) × (Sound (now sheet) script) × (script .slots ≤ 64 * y .words) × Held y (scratch y (now s)) ⌝ }
-    ensures { λ _. ⌜ Joined (now (sheet .entry)) y (scratch y (now (s .entry))) (scratch y (now (s .exit))) ⌝ }
+    ensures { λ _. ⌜ Joined (parameterWith (partsOf (now (sheet .entry))) (now (added .entry))) y (scratch y (now (s .entry))) (scratch y (now (s .exit))) ⌝ }
 {
     edges::predecessors::predecessors(s, y);
-    parameters(sheet, s, script, y);
+    parameters(sheet, added, s, script, y);
 }
 
-// The row of the parameters.
-fn parameters(sheet: &[u8], s: &mut [u64], script: Script, y: Layout)
+// The row of the parameters: the sheet's own, and the added ones.
+fn parameters(sheet: &[u8], added: &[u64], s: &mut [u64], script: Script, y: Layout)
     requires { ⌜ Room y (length (now s)) × (Sound (now sheet) script) × (script .slots ≤ 64 * y .words) ⌝ }
-    ensures { λ _. ⌜ scratch y (now (s .exit)) ≡ storeCell (scratch y (now (s .entry))) (parametersRow (y .blocks)) (parameterRow (partsOf (now (sheet .entry))) (y .words)) ⌝ }
+    ensures { λ _. ⌜ Parameters (parameterWith (partsOf (now (sheet .entry))) (now (added .entry))) y (scratch y (now (s .entry))) (scratch y (now (s .exit))) ⌝ }
 {
     let base = y.scratch_start(y.parameters());
     let w = y.words;
-    sets::insert_parameters(sheet, script, s, base, w);
+    starts::insert_all(sheet, script, added, s, base, w);
 }
 
 // Which blocks a path from block 0 reaches.

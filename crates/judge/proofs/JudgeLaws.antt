@@ -1,6 +1,6 @@
 -- `judge`: what its calls ask for, and what it does by what they do. Assumes nothing.
-use mathlib.Core.Path.{_≡_, refl, sym, ap, subst, _∙_}
-use mathlib.Core.Bool.{Bool}
+use mathlib.Core.Path.{_≡_, refl, sym, ap, subst, fun-ext, _∙_}
+use mathlib.Core.Bool.{Bool, true}
 use mathlib.Core.List.{List, _∷_, _++_}
 use Prim.Native.Nat.{ℕ, _+_, _*_, _-_, _/_, _^_, _≤_, _<_}
 use native.Mathlib.Omega.{arith}
@@ -28,6 +28,7 @@ use Rattle.rooms.specs.declared.Staged.{Staged}
 use Rattle.rooms.specs.declared.Staged.the-variants as staging
 use Rattle.rooms.specs.Rooms.{layoutOf, roomsOf, ifMet, Indexes}
 use Rattle.rooms.proofs.RoomLaws.{rooms-yes}
+use Rattle.reads.specs.Reads.{heldSet}
 use Rattle.graph.specs.Graph.{ifOk, stage, graphOf, Graphed}
 use Rattle.graph.proofs.GraphLaws.{staged-met}
 use Rattle.outcome.specs.Outcome.{lengthsWith, Outcome, refused, afterGraph, judged}
@@ -62,30 +63,30 @@ graph-layout s x l lent n b y left e =
 
 -- ---- `judge`
 
-module _ (s : List ℕ) (x : Script) (l : Limits) (records : ℕ) (b : FlowBudget) (w v : List ℕ) where
+module _ (s : List ℕ) (parameter : ℕ → Bool) (x : Script) (l : Limits) (records : ℕ) (b : FlowBudget) (w v : List ℕ) where
   -- the answer by whether too little scratch is lent
   abbrev answer-if : Bool → Outcome
   answer-if t =
-      pick t (refused NoRoom (x .id) b) (afterGraph s x l (graphOf s x l (record { sets = length v; records = records }) (length w) b))
+      pick t (refused NoRoom (x .id) b) (afterGraph s parameter x l (graphOf s x l (record { sets = length v; records = records }) (length w) b))
 
   -- too little is lent
-  pub judges-short : (w′ v′ : List ℕ) → length w < 4 * x .count → Judges s x l records b w w′ v v′ (Refused NoRoom b)
+  pub judges-short : (w′ v′ : List ℕ) → length w < 4 * x .count → Judges s parameter x l records b w w′ v v′ (Refused NoRoom b)
   judges-short w′ v′ h = record {
     answer = ap answer-if (sym (lt-ltb (length w) (4 * x .count) h));
     accepts = λ y awaits left q. let o : _≡_ {A = ℕ} 0 1 = cc in absurd (omega arith);
   }
 
   -- enough is lent, and `graph` was called
-  module _ (enough : 4 * x .count ≤ length w) (w₁ v₁ : List ℕ) (g : Staged) (f : Graphed s x l records b w w₁ v v₁ g) where
+  module _ (enough : 4 * x .count ≤ length w) (w₁ v₁ : List ℕ) (g : Staged) (f : Graphed s parameter x l records b w w₁ v v₁ g) where
     -- the answer is what follows that of `graph`
-    answer-on : afterGraph s x l g ≡ judged s x l (lengthsWith w v records) b
-    answer-on = ap (afterGraph s x l) (f .answer) ∙ ap answer-if (sym (le-ltb (length w) (4 * x .count) enough))
+    answer-on : afterGraph s parameter x l g ≡ judged s parameter x l (lengthsWith w v records) b
+    answer-on = ap (afterGraph s parameter x l) (f .answer) ∙ ap answer-if (sym (le-ltb (length w) (4 * x .count) enough))
 
     -- `graph` refused
     pub judges-refused : (n : Refusal) (z : FlowBudget) (r : Judged) → g ≡ staging.Refused n z → r ≡ refusedAt g
-        → Judges s x l records b w w₁ v v₁ r
+        → Judges s parameter x l records b w w₁ v v₁ r
     judges-refused n z r e er = record {
-      answer = ap (outcomeWith (x .id)) (er ∙ ap refusedAt e) ∙ ap (afterGraph s x l) (sym e) ∙ answer-on;
+      answer = ap (outcomeWith (x .id)) (er ∙ ap refusedAt e) ∙ ap (afterGraph s parameter x l) (sym e) ∙ answer-on;
       accepts = λ y awaits left q. let o : _≡_ {A = ℕ} 0 1 = cc in absurd (omega arith);
     }
 
@@ -101,30 +102,37 @@ module _ (s : List ℕ) (x : Script) (l : Limits) (records : ℕ) (b : FlowBudge
           ap (λ (z : Layout). z .words)
           (sym (graph-layout s x l (record { sets = length v; records = records }) (length w) b y left (sym (f .answer) ∙ e)))
 
+      -- their row holds the parameters
+      held-is : heldSet y (scratch y w₁) ≡ parameter
+      held-is = fun-ext (λ i. f .holding y left e .flows .parameters-are i)
+
       -- what `solve` asks: the sets buffer is as long as it was lent
-      pub solve-asks : length v₁ ≡ length v → Sound s x → l .work < 2 ^ 64 - 1
-          → Room y (length w₁) × SetsRoom y (length v₁) × (Begun s x y (scratch y w₁) (sets y v₁)) × (l .work < 2 ^ 64 - 1)
-      solve-asks long sound h = (
+      pub solve-asks : length v₁ ≡ length v → Sound s x → ((i : ℕ) → parameter i ≡ true → i < x .slots) → l .work < 2 ^ 64 - 1
+          → Room y (length w₁) × SetsRoom y (length v₁) × (Begun s (heldSet y (scratch y w₁)) x y (scratch y w₁) (sets y v₁))
+          × (l .work < 2 ^ 64 - 1)
+      solve-asks long sound below h = (
         indexes .room,
         subst (SetsRoom y) (sym long) (indexes .sets-room),
-        record {
-          sound = sound;
-          fits = indexes .fits;
-          awaits = indexes .awaits;
-          holding = f .holding y left e;
-          fresh = f .fresh y left e;
-        },
+        subst (λ (set : ℕ → Bool). Begun s set x y (scratch y w₁) (sets y v₁)) (sym held-is)
+            (record {
+              sound = sound;
+              fits = indexes .fits;
+              awaits = indexes .awaits;
+              below = below;
+              holding = f .holding y left e;
+              fresh = f .fresh y left e;
+            }),
         h,
       )
 
       -- `solve` answers: both buffers are as long as before
       pub judges-on : (w₂ v₂ : List ℕ) (r : Judged) → length w₂ ≡ length w₁ → length v₂ ≡ length v
-          → Solves s x y l left (scratch y w₂) (sets y v₂) r → Judges s x l records b w w₂ v v₂ r
-      judges-on w₂ v₂ r long sets-long h = record {
-        answer = h .answer ∙ ap (afterGraph s x l) (sym e) ∙ answer-on;
+          → Solves s (heldSet y (scratch y w₁)) x y l left (scratch y w₂) (sets y v₂) r → Judges s parameter x l records b w w₂ v v₂ r
+      judges-on w₂ v₂ r long sets-long solved = let h = with-those solved in record {
+        answer = h .answer ∙ ap (afterGraph s parameter x l) (sym e) ∙ answer-on;
         accepts = λ z awaits last q.
             let k = h .finished z awaits last q in
-            subst (λ (u : Layout). AcceptedWords s x (record { sets = length v; records = records }) w₂ v₂ u) (sym (k .0))
+            subst (λ (u : Layout). AcceptedWords s parameter x (record { sets = length v; records = records }) w₂ v₂ u) (sym (k .0))
             (record {
               fits = indexes .fits;
               words = words-are;
@@ -135,3 +143,7 @@ module _ (s : List ℕ) (x : Script) (l : Limits) (records : ℕ) (b : FlowBudge
               finished = k .1;
             });
       }
+        where
+          with-those : Solves s (heldSet y (scratch y w₁)) x y l left (scratch y w₂) (sets y v₂) r
+              → Solves s parameter x y l left (scratch y w₂) (sets y v₂) r
+          with-those = subst (λ (set : ℕ → Bool). Solves s set x y l left (scratch y w₂) (sets y v₂) r) held-is

@@ -1,5 +1,6 @@
 -- flow.rs `verify` on a sheet that passed the checks: what `outcome` says, and what both buffers then hold.
 use mathlib.Core.Path.{_≡_}
+use mathlib.Core.Bool.{Bool, true}
 use mathlib.Core.List.{List}
 use Prim.Native.Nat.{ℕ, _+_, _/_, _≤_, _<_}
 use lib.ListN.{length}
@@ -14,7 +15,7 @@ use Rattle.memory.specs.Scratch.{scratch, Room}
 use Rattle.memory.specs.Sets.{sets, SetsRoom}
 use Rattle.sheet.specs.declared.script.Script.{Script}
 use Rattle.sheet.specs.Decode.{partsOf}
-use Rattle.script.specs.Script.{flowCode, parameterIn, hostIn}
+use Rattle.script.specs.Script.{flowCode, hostIn}
 use Rattle.rooms.specs.declared.Lent.{Lent}
 use Rattle.rooms.specs.declared.Staged.{Staged}
 use Rattle.rooms.specs.declared.Staged.the-variants as staging
@@ -39,12 +40,13 @@ abbrev pub outcomeWith : ℕ → Judged → Outcome
 outcomeWith id (Accepted y n b) = accepted id (y .blocks) n b
 outcomeWith id (Refused r b) = refused r id b
 
--- what `solve` begins with
-pub record Begun (s : List ℕ) (x : Script) (y : Layout) (m t : Mem) : Type 0 where
+-- what `solve` begins with: the parameters are slots of the script
+pub record Begun (s : List ℕ) (parameter : ℕ → Bool) (x : Script) (y : Layout) (m t : Mem) : Type 0 where
   pub sound : Sound s x
   pub fits : Fits s x y
   pub awaits : y .awaits ≡ x .awaits
-  pub holding : Holding s x y m
+  pub below : (i : ℕ) → parameter i ≡ true → i < x .slots
+  pub holding : Holding s parameter x y m
   pub fresh : Fresh y t
 
 -- what `hosts_if` does: the row of the host slots, if there is an await
@@ -53,17 +55,17 @@ pub record Hosted (s : List ℕ) (x : Script) (y : Layout) (m m′ : Mem) : Type
   pub others : (k : ℕ) → (k ≡ hostsRow (y .blocks) → ⊥) → cell m′ k ≡ cell m k
 
 -- what the words then hold of a script that is accepted
-pub record Finished (s : List ℕ) (y : Layout) (m t : Mem) : Type 0 where
-  pub block : (c : ℕ) → c < y .blocks → Block (flowCode (partsOf s)) (parameterIn (partsOf s)) m c
-  pub flows : Flows (flowCode (partsOf s)) (parameterIn (partsOf s)) y m
-  pub both : Sets (flowCode (partsOf s)) (parameterIn (partsOf s)) y t
-  pub facts : Entries y t 0 (points (flowCode (partsOf s)) (parameterIn (partsOf s)) (y .words))
+pub record Finished (s : List ℕ) (parameter : ℕ → Bool) (y : Layout) (m t : Mem) : Type 0 where
+  pub block : (c : ℕ) → c < y .blocks → Block (flowCode (partsOf s)) parameter m c
+  pub flows : Flows (flowCode (partsOf s)) parameter y m
+  pub both : Sets (flowCode (partsOf s)) parameter y t
+  pub facts : Entries y t 0 (points (flowCode (partsOf s)) parameter (y .words))
 
 -- what `solve` does: an answer that accepts carries the layout that it was given
-pub record Solves (s : List ℕ) (x : Script) (y : Layout) (l : Limits) (b : FlowBudget) (m′ t′ : Mem) (r : Judged) : Type 0 where
+pub record Solves (s : List ℕ) (parameter : ℕ → Bool) (x : Script) (y : Layout) (l : Limits) (b : FlowBudget) (m′ t′ : Mem) (r : Judged) : Type 0 where
   pub answer : outcomeWith (x .id) r
-      ≡ afterRounds s x l y (charged l b (fixedPointsCharges (flowCode (partsOf s)) (parameterIn (partsOf s)) (y .words)))
-  pub finished : (z : Layout) (awaits : ℕ) (left : FlowBudget) → r ≡ Accepted z awaits left → (z ≡ y) × Finished s y m′ t′
+      ≡ afterRounds s parameter x l y (charged l b (fixedPointsCharges (flowCode (partsOf s)) parameter (y .words)))
+  pub finished : (z : Layout) (awaits : ℕ) (left : FlowBudget) → r ≡ Accepted z awaits left → (z ≡ y) × Finished s parameter y m′ t′
 
 -- a stage's refusal; where it goes on this is not asked
 abbrev pub refusedAt : Staged → Judged
@@ -76,17 +78,17 @@ pointed y (Passed n b) = Accepted y n b
 pointed y (pointing.Refused r b) = Refused r b
 
 -- of the words of both buffers, w and v: they have room, and they hold a script that is accepted
-pub record AcceptedWords (s : List ℕ) (x : Script) (lent : Lent) (w v : List ℕ) (y : Layout) : Type 0 where
+pub record AcceptedWords (s : List ℕ) (parameter : ℕ → Bool) (x : Script) (lent : Lent) (w v : List ℕ) (y : Layout) : Type 0 where
   pub fits : Fits s x y
   pub words : y .words ≡ (x .slots + 63) / 64
   pub awaits : y .awaits ≡ x .awaits
   pub room : Room y (length w)
   pub sets-room : SetsRoom y (length v)
   pub records : y .blocks ≤ lent .records
-  pub finished : Finished s y (scratch y w) (sets y v)
+  pub finished : Finished s parameter y (scratch y w) (sets y v)
 
 -- what `judge` does
-pub record Judges (s : List ℕ) (x : Script) (l : Limits) (records : ℕ) (b : FlowBudget) (w w′ v v′ : List ℕ) (r : Judged) : Type 0 where
-  pub answer : outcomeWith (x .id) r ≡ judged s x l (lengthsWith w v records) b
+pub record Judges (s : List ℕ) (parameter : ℕ → Bool) (x : Script) (l : Limits) (records : ℕ) (b : FlowBudget) (w w′ v v′ : List ℕ) (r : Judged) : Type 0 where
+  pub answer : outcomeWith (x .id) r ≡ judged s parameter x l (lengthsWith w v records) b
   pub accepts : (y : Layout) (awaits : ℕ) (left : FlowBudget) → r ≡ Accepted y awaits left
-      → AcceptedWords s x (record { sets = length v; records = records }) w′ v′ y
+      → AcceptedWords s parameter x (record { sets = length v; records = records }) w′ v′ y

@@ -18,6 +18,8 @@ ghost use Rattle.memory.specs.Sets.{sets, SetsRoom};
 ghost use Rattle.sheet.specs.Decode.{partsOf};
 ghost use Rattle.instructions.specs.Sets.{hostRow};
 ghost use Rattle.instructions.specs.Sound.{Sound};
+ghost use Rattle.starts.specs.Starts.{parameterWith};
+ghost use Rattle.reads.specs.Reads.{heldSet};
 ghost use Rattle.judge.specs.Judge.{refusedAt, pointed, Begun, Hosted, Solves, Judges};
 
 // Accepted with the layout, how many awaits are reached, and the budget; or refused with the budget as charged.
@@ -26,9 +28,11 @@ pub enum Judged {
     Refused(Refusal, FlowBudget),
 }
 
-// The early 10, then the graph, both rounds, and the checks of reads and awaits. `records` is how many block records are lent.
+// The early 10, then the graph, both rounds, and the checks of reads and awaits. `added` is a set of slots that are parameters beside the sheet's
+// own, `records` how many block records are lent.
 pub fn judge(
     sheet: &[u8],
+    added: &[u64],
     s: &mut [u64],
     t: &mut [u64],
     script: Script,
@@ -37,12 +41,12 @@ pub fn judge(
     budget: FlowBudget,
 ) -> Judged
     requires { ⌜ (Sound (now sheet) script) × (limits .work < 2 ^ 64 - 1) ⌝ }
-    ensures { λ r. ⌜ Judges (now (sheet .entry)) script limits records budget (now (s .entry)) (now (s .exit)) (now (t .entry)) (now (t .exit)) r ⌝ }
+    ensures { λ r. ⌜ Judges (now (sheet .entry)) (parameterWith (partsOf (now (sheet .entry))) (now (added .entry))) script limits records budget (now (s .entry)) (now (s .exit)) (now (t .entry)) (now (t .exit)) r ⌝ }
 {
     if s.len() < 4 * script.count {
         return Judged::Refused(Refusal::NoRoom, budget);
     }
-    let g = graph::graph(sheet, s, t, script, records, limits, budget);
+    let g = graph::graph(sheet, added, s, t, script, records, limits, budget);
     let Staged::Ok(y, left) = g else {
         return staged(g);
     };
@@ -59,8 +63,8 @@ fn solve(
     limits: Limits,
     budget: FlowBudget,
 ) -> Judged
-    requires { ⌜ Room y (length (now s)) × SetsRoom y (length (now t)) × (Begun (now sheet) script y (scratch y (now s)) (sets y (now t))) × (limits .work < 2 ^ 64 - 1) ⌝ }
-    ensures { λ r. ⌜ Solves (now (sheet .entry)) script y limits budget (scratch y (now (s .exit))) (sets y (now (t .exit))) r ⌝ }
+    requires { ⌜ Room y (length (now s)) × SetsRoom y (length (now t)) × (Begun (now sheet) (heldSet y (scratch y (now s))) script y (scratch y (now s)) (sets y (now t))) × (limits .work < 2 ^ 64 - 1) ⌝ }
+    ensures { λ r. ⌜ Solves (now (sheet .entry)) (heldSet y (scratch y (now (s .entry)))) script y limits budget (scratch y (now (s .exit))) (sets y (now (t .exit))) r ⌝ }
 {
     let c = fixed_points::fixed_points(s, t, y, limits, budget);
     let Charged::Ok(left) = c else {

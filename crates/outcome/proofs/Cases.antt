@@ -48,9 +48,9 @@ at work retained = record { work = work; retained = retained }
 
 -- a sheet, with function id 7, gives this answer and leaves this block list and these sets, each before zeros
 pub record Gives (sheet : List ℕ) (o : Outcome) (list sets : List ℕ) : Type 0 where
-  pub answer : outcomeOf sheet todays lent (at 0 0) ≡ o
+  pub answer : outcomeOf sheet (parameterIn (partsOf sheet)) todays lent (at 0 0) ≡ o
   pub blocks : listAfter sheet lent o ≡ padded 30 list
-  pub words : setsAfter sheet lent o ≡ padded 12 sets
+  pub words : setsAfter sheet (parameterIn (partsOf sheet)) lent o ≡ padded 12 sets
 
 pub record Cases : Type 0 where
   -- N = 0

@@ -8,7 +8,7 @@ use Rattle.dataflow.specs.Code.{Instruction, leaders, blockSuccessors}
 use Rattle.dataflow.specs.Results.{reachable, initExit, liveEntry}
 use Rattle.memory.specs.Names.{flag}
 use Rattle.sheet.specs.Decode.{partsOf}
-use Rattle.script.specs.Script.{flowCode, parameterIn}
+use Rattle.script.specs.Script.{flowCode}
 use Rattle.verdict.specs.Points.{Point, points}
 use Rattle.answer.specs.Words.{wordsOf}
 use Rattle.outcome.specs.Outcome.{Lengths, Outcome, accepted, refused}
@@ -22,13 +22,13 @@ abbrev pub joined : {A : Type 0} → (A → List ℕ) → List A → List ℕ
 joined f [] = []
 joined f (a ∷ l) = f a ++ joined f l
 
-module _ (code : List Instruction) (parameter : ℕ → Bool) (words : ℕ) where
-  -- document 01, a block record: start, end, reachable, successor count, two successors (unused ones 0)
-  abbrev pub blockRecord : ℕ → List ℕ
-  blockRecord c =
-      getD (leaders code) c (length code) ∷ getD (leaders code) (suc c) (length code) ∷ flag (reachable code c) ∷ length (blockSuccessors code c)
-      ∷ getD (blockSuccessors code c) 0 0 ∷ getD (blockSuccessors code c) 1 0 ∷ []
+-- document 01, a block record: start, end, reachable, successor count, two successors (unused ones 0)
+abbrev pub blockRecord : List Instruction → ℕ → List ℕ
+blockRecord code c =
+    getD (leaders code) c (length code) ∷ getD (leaders code) (suc c) (length code) ∷ flag (reachable code c) ∷ length (blockSuccessors code c)
+    ∷ getD (blockSuccessors code c) 0 0 ∷ getD (blockSuccessors code c) 1 0 ∷ []
 
+module _ (code : List Instruction) (parameter : ℕ → Bool) (words : ℕ) where
   -- "per block initialized at its exit, then live at its entry"
   abbrev pub blockSets : ℕ → List ℕ
   blockSets c = wordsOf words (initExit code parameter words c) ++ wordsOf words (liveEntry code parameter words c)
@@ -37,24 +37,24 @@ module _ (code : List Instruction) (parameter : ℕ → Bool) (words : ℕ) wher
   abbrev pub awaitWords : Point → List ℕ
   awaitWords p = p .instruction ∷ wordsOf words (p .live)
 
-module _ (s : List ℕ) where
-  -- the words of the block list, six a record, and of the sets buffer, for so many blocks
-  abbrev pub blockList : ℕ → ℕ → List ℕ
-  blockList words blocks = joined (blockRecord (flowCode (partsOf s)) (parameterIn (partsOf s)) words) (range 0 blocks)
+-- the words of the block list, six a record, for so many blocks
+abbrev pub blockList : List ℕ → ℕ → List ℕ
+blockList s blocks = joined (blockRecord (flowCode (partsOf s))) (range 0 blocks)
 
-  abbrev pub setWords : ℕ → ℕ → List ℕ
-  setWords words blocks =
-      joined (blockSets (flowCode (partsOf s)) (parameterIn (partsOf s)) words) (range 0 blocks)
-      ++ joined (awaitWords (flowCode (partsOf s)) (parameterIn (partsOf s)) words) (points (flowCode (partsOf s)) (parameterIn (partsOf s)) words)
+-- and of the sets buffer
+abbrev pub setWords : List ℕ → (ℕ → Bool) → ℕ → ℕ → List ℕ
+setWords s parameter words blocks =
+    joined (blockSets (flowCode (partsOf s)) parameter words) (range 0 blocks)
+    ++ joined (awaitWords (flowCode (partsOf s)) parameter words) (points (flowCode (partsOf s)) parameter words)
 
-  -- "After a refusal all lent memory is zero. After acceptance scratch is zero, and so is what lies past the answer."
-  abbrev pub listAfter : Lengths → Outcome → List ℕ
-  listAfter n (accepted id blocks awaits b) = padded (6 * n .records) (blockList ((partsOf s .slots + 63) / 64) blocks)
-  listAfter n (refused r id b) = replicate (6 * n .records) 0
+-- "After a refusal all lent memory is zero. After acceptance scratch is zero, and so is what lies past the answer."
+abbrev pub listAfter : List ℕ → Lengths → Outcome → List ℕ
+listAfter s n (accepted id blocks awaits b) = padded (6 * n .records) (blockList s blocks)
+listAfter s n (refused r id b) = replicate (6 * n .records) 0
 
-  abbrev pub setsAfter : Lengths → Outcome → List ℕ
-  setsAfter n (accepted id blocks awaits b) = padded (n .sets) (setWords ((partsOf s .slots + 63) / 64) blocks)
-  setsAfter n (refused r id b) = replicate (n .sets) 0
+abbrev pub setsAfter : List ℕ → (ℕ → Bool) → Lengths → Outcome → List ℕ
+setsAfter s parameter n (accepted id blocks awaits b) = padded (n .sets) (setWords s parameter ((partsOf s .slots + 63) / 64) blocks)
+setsAfter s parameter n (refused r id b) = replicate (n .sets) 0
 
-  abbrev pub scratchAfter : Lengths → List ℕ
-  scratchAfter n = replicate (n .scratch) 0
+abbrev pub scratchAfter : Lengths → List ℕ
+scratchAfter n = replicate (n .scratch) 0

@@ -1,5 +1,6 @@
--- What the call that checks a sheet answers: document 01's refusal table with its last paragraph, from the bytes, the lengths of the lent
--- buffers, and the budget.
+-- What the call that checks a sheet answers: document 01's refusal table with its last paragraph, from the bytes, the set of parameters,
+-- the limits, the lengths of the lent buffers, and the budget.
+use mathlib.Core.Bool.{Bool}
 use mathlib.Core.List.{List}
 use Prim.Native.Nat.{ℕ, _*_}
 use lib.Dec.{ltb}
@@ -18,7 +19,7 @@ use Rattle.sheet.specs.declared.script.Checked.{Checked}
 use Rattle.sheet.specs.declared.script.Checked.the-variants as checking
 use Rattle.sheet.specs.Decode.{partsOf}
 use Rattle.sheet.specs.Checks.{checkedOf}
-use Rattle.script.specs.Script.{flowCode, parameterIn, hostIn}
+use Rattle.script.specs.Script.{flowCode, hostIn}
 use Rattle.rooms.specs.declared.Staged.{Staged}
 use Rattle.rooms.specs.declared.Staged.the-variants as staging
 use Rattle.graph.specs.Graph.{graphOf}
@@ -40,22 +41,23 @@ pub data Outcome : Type 0 where
   accepted : (id blocks awaits : ℕ) → FlowBudget → Outcome
   refused : Refusal → (id : ℕ) → FlowBudget → Outcome
 
-module _ (s : List ℕ) (x : Script) (l : Limits) where
+-- `parameter` says which slots of the script are parameters: the sheet's own (`parameterIn`), or those and an added set (`parameterWith`)
+module _ (s : List ℕ) (parameter : ℕ → Bool) (x : Script) (l : Limits) where
   -- `check_points`
   abbrev pub afterPoints : Layout → Checking → Outcome
   afterPoints y (stop r b) = refused r (x .id) b
-  afterPoints y (on b) = accepted (x .id) (y .blocks) (length (points (flowCode (partsOf s)) (parameterIn (partsOf s)) (y .words))) b
+  afterPoints y (on b) = accepted (x .id) (y .blocks) (length (points (flowCode (partsOf s)) parameter (y .words))) b
 
   -- `fixed_points`, then `check_points`
   abbrev pub afterRounds : Layout → Charged → Outcome
   afterRounds y (Over b) = refused WorkLimit (x .id) b
   afterRounds y (Ok b) =
-      afterPoints y (pointsRun (flowCode (partsOf s)) (parameterIn (partsOf s)) l (y .words) (x .slots) (hostIn (partsOf s)) b)
+      afterPoints y (pointsRun (flowCode (partsOf s)) parameter l (y .words) (x .slots) (hostIn (partsOf s)) b)
 
   -- `graph` and `reachability`, then the rest
   abbrev pub afterGraph : Staged → Outcome
   afterGraph (staging.Refused r b) = refused r (x .id) b
-  afterGraph (staging.Ok y b) = afterRounds y (charged l b (fixedPointsCharges (flowCode (partsOf s)) (parameterIn (partsOf s)) (y .words)))
+  afterGraph (staging.Ok y b) = afterRounds y (charged l b (fixedPointsCharges (flowCode (partsOf s)) parameter (y .words)))
 
   -- "then scratch below 4 × N words is 10. Then the source's steps"
   abbrev pub judged : Lengths → FlowBudget → Outcome
@@ -63,10 +65,10 @@ module _ (s : List ℕ) (x : Script) (l : Limits) where
       (afterGraph (graphOf s x l (record { sets = n .sets; records = n .records }) (n .scratch) b))
 
 -- the sheet checks first; "as given for 1 to 9 and the early 10"
-abbrev pub afterChecks : List ℕ → Limits → Lengths → FlowBudget → Checked → Outcome
-afterChecks s l n b (checking.Refused r id) = refused r id b
-afterChecks s l n b (checking.Passed x) = judged s x l n b
+abbrev pub afterChecks : List ℕ → (ℕ → Bool) → Limits → Lengths → FlowBudget → Checked → Outcome
+afterChecks s parameter l n b (checking.Refused r id) = refused r id b
+afterChecks s parameter l n b (checking.Passed x) = judged s parameter x l n b
 
 -- the answer
-unfoldable pub outcomeOf : List ℕ → Limits → Lengths → FlowBudget → Outcome
-outcomeOf s l n b = afterChecks s l n b (checkedOf s)
+unfoldable pub outcomeOf : List ℕ → (ℕ → Bool) → Limits → Lengths → FlowBudget → Outcome
+outcomeOf s parameter l n b = afterChecks s parameter l n b (checkedOf s)

@@ -15,7 +15,7 @@ use Rattle.budget.specs.declared.Limits.{Limits}
 use Rattle.format.specs.declared.refusal.Refusal.the-variants.{WorkLimit, UnfilledSlot}
 use Rattle.budget.specs.Budget.{charged}
 use Rattle.memory.specs.Cells.{Mem, cell, word}
-use Rattle.memory.specs.Names.{costCell, offsetCell, usesRow, stateRow, hostsRow}
+use Rattle.memory.specs.Names.{costCell, offsetCell, usesRow, stateRow, parametersRow, hostsRow}
 use Rattle.memory.specs.declared.layout.Layout.{Layout}
 use Rattle.sheet.specs.declared.script.Script.{Script}
 use Rattle.sheet.specs.Decode.{partsOf}
@@ -26,6 +26,10 @@ use Rattle.verdict.specs.Points.{Checking, stop, on, ifPaid, readsRun}
 use Rattle.operands.specs.Kinds.{isAwait}
 use Rattle.reads.specs.declared.Reads.{Reads}
 use Rattle.reads.specs.declared.Reads.the-variants.{Filled, Unfilled, Over}
+
+-- the parameters, as their row of scratch holds them: the set that block 0 starts from
+abbrev pub heldSet : Layout → Mem → ℕ → Bool
+heldSet y m = member (cell m (parametersRow (y .blocks)))
 
 -- the instructions of a sheet that passed can be read, with their costs and, if there may be an await, the row of host slots
 pub record Coded (s : List ℕ) (x : Script) (y : Layout) (m : Mem) : Type 0 where

@@ -21,8 +21,8 @@ ghost use Rattle.operands.specs.Instructions.{Readable, valuesOf};
 ghost use Rattle.memory.specs.Cells.{cell};
 ghost use Rattle.memory.specs.Scratch.{scratch, Room, Row};
 ghost use Rattle.sheet.specs.Decode.{partsOf};
-ghost use Rattle.script.specs.Script.{flowCode, parameterIn};
-ghost use Rattle.reads.specs.Reads.{awaitCount, Coded, Used, ReadsCharged, ReadsChecked};
+ghost use Rattle.script.specs.Script.{flowCode};
+ghost use Rattle.reads.specs.Reads.{heldSet, awaitCount, Coded, Used, ReadsCharged, ReadsChecked};
 
 // All reads are filled, with how many awaits there are; or one is not; or a charge crossed the limit.
 pub enum Reads {
@@ -44,8 +44,8 @@ pub fn block_reads(
     limits: Limits,
     budget: FlowBudget,
 ) -> Reads
-    requires { ⌜ Room y (length (now s)) × (Coded (now sheet) script y (scratch y (now s))) × (block < y .blocks) × (Used (flowCode (partsOf (now sheet))) (parameterIn (partsOf (now sheet))) block start end (scratch y (now s))) × (start ≤ end) × (end ≤ y .instructions) ⌝ }
-    ensures { λ r. ⌜ ReadsChecked (flowCode (partsOf (now (sheet .entry)))) (parameterIn (partsOf (now (sheet .entry)))) y limits budget start end (scratch y (now (s .entry))) (scratch y (now (s .exit))) r ⌝ }
+    requires { ⌜ Room y (length (now s)) × (Coded (now sheet) script y (scratch y (now s))) × (block < y .blocks) × (Used (flowCode (partsOf (now sheet))) (heldSet y (scratch y (now s))) block start end (scratch y (now s))) × (start ≤ end) × (end ≤ y .instructions) ⌝ }
+    ensures { λ r. ⌜ ReadsChecked (flowCode (partsOf (now (sheet .entry)))) (heldSet y (scratch y (now (s .entry)))) y limits budget start end (scratch y (now (s .entry))) (scratch y (now (s .exit))) r ⌝ }
 {
     if rows::within(s, y, y.uses(block), y.state()) {
         return charge_reads(sheet, s, script, y, start, end, limits, budget);
@@ -97,7 +97,7 @@ fn check_reads(
     budget: FlowBudget,
 ) -> Reads
     requires { ⌜ Room y (length (now s)) × (Coded (now sheet) script y (scratch y (now s))) × (start ≤ end) × (end ≤ y .instructions) ⌝ }
-    ensures { λ r. ⌜ ReadsChecked (flowCode (partsOf (now (sheet .entry)))) (parameterIn (partsOf (now (sheet .entry)))) y limits budget start end (scratch y (now (s .entry))) (scratch y (now (s .exit))) r ⌝ }
+    ensures { λ r. ⌜ ReadsChecked (flowCode (partsOf (now (sheet .entry)))) (heldSet y (scratch y (now (s .entry)))) y limits budget start end (scratch y (now (s .entry))) (scratch y (now (s .exit))) r ⌝ }
 {
     let state = y.state();
     let mut left = budget;

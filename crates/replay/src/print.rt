@@ -1,6 +1,6 @@
 // The parts of an answer line.
+use answers::Answer;
 use budget::FlowBudget;
-use flow::Answer;
 ghost use Prim.Native.Nat.{_≤_};
 ghost use lib.ListN.{length};
 

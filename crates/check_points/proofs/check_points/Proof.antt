@@ -7,14 +7,15 @@ use lib.ListN.{length}
 use borrow.Author.Needs.{needs}
 use Rattle.memory.specs.Scratch.{scratch, Room}
 use Rattle.memory.specs.Sets.{sets, SetsRoom}
-use Rattle.check_points.proofs.TurnLaws.{Turned, turned-none, turned-all, turned-facing, turned-over, turned-more}
+use Rattle.reads.specs.Reads.{heldSet}
+use Rattle.check_points.proofs.TurnLaws.{Turned, turned-none, turned-all, turned-held, block-held, turned-over, turned-more}
 use Rattle.check_points.proofs.check_points.Statement.{statement}
 use Rattle.check_points.proofs.check_points.Tie as tie
 
 abbrev Inv-loop : tie.InvT-loop
 Inv-loop sheet s₀ t₀ script y limits left₀ place₀ block₀ s t left place block =
     (length s ≡ length s₀) × (length t ≡ length t₀)
-    × Turned sheet script y limits left₀ block place left (scratch y s₀) (scratch y s) (sets y t₀) (sets y t)
+    × Turned sheet (heldSet y (scratch y s₀)) script y limits left₀ block place left (scratch y s₀) (scratch y s) (sets y t₀) (sets y t)
 
 abbrev μ-loop : tie.MeasureT-loop
 μ-loop sheet s₀ t₀ script y limits left₀ place₀ block₀ s t left place block =
@@ -31,7 +32,7 @@ check-block-requires c κs =
     let e = c .before .before .before .before .before .before .before .before in (
       subst (λ (n : ℕ). Room (e .args .y) n) (sym (l .inv .0)) (e .pre .0),
       subst (λ (n : ℕ). SetsRoom (e .args .y) n) (sym (l .inv .1)) (e .pre .1),
-      turned-facing (l .inv .2) (c .before .before .if1 .taken),
+      turned-held (l .inv .2) (c .before .before .if1 .taken),
     )
 
 enum-known-r : tie.Need-enum-known-r Inv-loop μ-loop
@@ -53,7 +54,8 @@ same-length-2 c =
 returns : tie.Need-returns Inv-loop μ-loop
 returns c =
     let b = c .before .before .before .before .before .before in
-    turned-over (b .before .before .before .before .before .loop .inv .2) (b .before .before .before .if1 .taken) (b .check-block .ensures) (c .enum-told .given .1)
+    turned-over (b .before .before .before .before .before .loop .inv .2) (b .before .before .before .if1 .taken)
+    (block-held (b .before .before .before .before .before .loop .inv .2) (b .check-block .ensures)) (c .enum-told .given .1)
 
 add-block : tie.Need-add-block Inv-loop μ-loop
 add-block c = search needs
@@ -67,7 +69,7 @@ loop-again c =
     let l = b .before .before .before .before .before .loop in (
       b .check-block .kept .1 .0 ∙ l .inv .0,
       b .check-block .kept .1 .1 .0 ∙ l .inv .1,
-      turned-more (l .inv .2) (b .before .before .before .if1 .taken) (b .check-block .ensures) (c .before .r .given .1),
+      turned-more (l .inv .2) (b .before .before .before .if1 .taken) (block-held (l .inv .2) (b .check-block .ensures)) (c .before .r .given .1),
     )
 
 same-length-3 : tie.Need-same-length-3 Inv-loop μ-loop

@@ -7,7 +7,7 @@ use borrow.Author.Needs.{needs}
 use Rattle.memory.specs.Scratch.{scratch, Room}
 use Rattle.memory.proofs.ScratchLaws.{place-blocks}
 use Rattle.check_points.proofs.SolvedLaws.{solved-connected}
-use Rattle.check_points.proofs.CheckedLaws.{not-filled, entered, entered-used, reads-counted, reads-refused, reads-then}
+use Rattle.check_points.proofs.CheckedLaws.{not-filled, entered, entered-held, reads-held, counted-held, found-held, reads-refused, reads-then}
 use Rattle.check_points.proofs.check_reached.Statement.{statement}
 use Rattle.check_points.proofs.check_reached.Tie as tie
 
@@ -39,7 +39,7 @@ block-reads-requires c κs =
     let en = entered (now (e .args .s)) (now (e .args .t)) (e .pre .0) (λ i. omega (arith, g .before .before .before .before .slice-known .given i)) (e .pre .1)
     (λ i. omega (arith, g .before .before .before .slice-known2 .given i)) (e .pre .2) (e .pre .3) (g .gather .ensures) (c .before .before .before .get .ensures)
     (c .before .get2 .ensures) in
-    (subst (λ (n : ℕ). Room (e .args .y) n) (sym (g .gather .kept .0)) (e .pre .0), en .solved .coded, en .inside, entered-used en, en .span .ordered, en .span .inside)
+    (subst (λ (n : ℕ). Room (e .args .y) n) (sym (g .gather .kept .0)) (e .pre .0), en .solved .coded, en .inside, entered-held en, en .span .ordered, en .span .inside)
 
 enum-known-r : tie.Need-enum-known-r
 enum-known-r c = search needs
@@ -63,7 +63,7 @@ returns c =
     let en = entered (now (e .args .s)) (now (e .args .t)) (e .pre .0) (λ i. omega (arith, g .before .before .before .before .slice-known .given i)) (e .pre .1)
     (λ i. omega (arith, g .before .before .before .slice-known2 .given i)) (e .pre .2) (e .pre .3) (g .gather .ensures) (q .before .before .before .before .get .ensures)
     (q .before .before .get2 .ensures) in
-    reads-refused en (q .block-reads .ensures) (not-filled _ (c .before .match .keys2)) (c .refused .ensures)
+    reads-refused en (reads-held en (q .block-reads .ensures)) (not-filled _ (c .before .match .keys2)) (c .refused .ensures)
 
 check-found-requires : tie.Need-check-found-requires
 check-found-requires c κs =
@@ -75,7 +75,7 @@ check-found-requires c κs =
     (q .before .before .get2 .ensures) in (
       subst (λ (n : ℕ). Room (e .args .y) n) (sym (q .block-reads .kept .1 .0 ∙ g .gather .kept .0)) (e .pre .0),
       e .pre .1,
-      reads-counted {m₁ = scratch (e .args .y) (q .block-reads .last .1 .0)} en (q .block-reads .ensures) (c .before .before .before .r .given .1),
+      counted-held {m₁ = scratch (e .args .y) (q .block-reads .last .1 .0)} en (reads-held en (q .block-reads .ensures)) (c .before .before .before .r .given .1),
     )
 
 same-length-3 : tie.Need-same-length-3
@@ -94,8 +94,9 @@ returns-2 c =
     let en = entered (now (e .args .s)) (now (e .args .t)) (e .pre .0) (λ i. omega (arith, g .before .before .before .before .slice-known .given i)) (e .pre .1)
     (λ i. omega (arith, g .before .before .before .slice-known2 .given i)) (e .pre .2) (e .pre .3) (g .gather .ensures) (q .before .before .before .before .get .ensures)
     (q .before .before .get2 .ensures) in
-    reads-then {m₁ = scratch (e .args .y) (q .block-reads .last .1 .0)} en (q .block-reads .ensures) (c .before .before .before .before .before .before .before .before .r .given .1)
-    (c .before .before .before .before .check-found .ensures)
+    reads-then {m₁ = scratch (e .args .y) (q .block-reads .last .1 .0)} en (reads-held en (q .block-reads .ensures))
+    (c .before .before .before .before .before .before .before .before .r .given .1)
+    (found-held {m₁ = scratch (e .args .y) (q .block-reads .last .1 .0)} en (reads-held en (q .block-reads .ensures)) (c .before .before .before .before .check-found .ensures))
 
 pub check-reached-spec : {M : Type 1} → statement M
 check-reached-spec =

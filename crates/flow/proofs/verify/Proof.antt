@@ -1,21 +1,20 @@
 -- `flow::verify` meets its contract. Assumes nothing.
-use Rattle.flow.proofs.VerifyLaws.{at-todays, todays-below, fill-asks, verified}
 use native.Mathlib.Omega.{arith}
 use borrow.Author.Needs.{needs}
+use Rattle.answers.proofs.AnswerLaws.{fill-asks}
+use Rattle.flow.proofs.VerifyLaws.{words-verified}
 use Rattle.flow.proofs.verify.Statement.{statement}
 use Rattle.flow.proofs.verify.Tie as tie
 
-todays-requires : tie.Need-todays-requires
-todays-requires c κs = search needs
-
-examine-requires : tie.Need-examine-requires
-examine-requires c κs = todays-below (c .todays .ensures)
+examined-requires : tie.Need-examined-requires
+examined-requires c κs = search needs
 
 layout-of-requires : tie.Need-layout-of-requires
 layout-of-requires c κs = search needs
 
 fill-requires : tie.Need-fill-requires
-fill-requires c κs = fill-asks (at-todays (c .before .before .before .before .before .before .before .before .todays .ensures) (c .before .before .before .before .before .before .before .examine .ensures)) _ (c .layout-of .ensures)
+fill-requires c κs =
+    fill-asks (c .before .before .before .before .before .before .before .examined .ensures) _ (c .layout-of .ensures)
 
 clear-requires : tie.Need-clear-requires
 clear-requires c κs = search needs
@@ -33,15 +32,15 @@ same-length-3 : tie.Need-same-length-3
 same-length-3 c = search needs
 
 returns : tie.Need-returns
-returns c = verified _ _ _ _ _ _ _ _ (at-todays (c .before .before .before .before .before .before .before .before .before .before .before .before .before .before .before .before .todays .ensures) (c .before .before .before .before .before .before .before .before .before .before .before .before .before .before .before .examine .ensures)) _ _ _ _ (c .before .before .before .before .before .before .before .before .layout-of .ensures) (c .before .before .before .before .before .before .before .fill .ensures)
-    (c .before .before .before .clear .ensures) (omega (arith, c .before .before .before .before .before .before .before .before .before .before .before .before .before .before .before .examine .kept .1)) (c .answer-of .ensures)
+returns c =
+    words-verified _ _ _ _ _ _ _ _ (c .before .before .before .before .before .before .before .before .before .before .before .before .before .before .before .examined .ensures) _ _ _ _ (c .before .before .before .before .before .before .before .before .layout-of .ensures) (c .before .before .before .before .before .before .before .fill .ensures)
+    (c .before .before .before .clear .ensures) (omega (arith, c .before .before .before .before .before .before .before .before .before .before .before .before .before .before .before .examined .kept .1)) (c .answer-of .ensures)
 
 pub verify-spec : {M : Type 1} → statement M
 verify-spec =
     tie.close
     (tie.spec
-    todays-requires
-    examine-requires
+    examined-requires
     layout-of-requires
     fill-requires
     clear-requires

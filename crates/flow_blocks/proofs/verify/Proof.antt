@@ -51,6 +51,8 @@ use Rattle.budget.specs.declared.FlowBudget.{FlowBudget}
 use Rattle.budget.specs.Budget.{todays}
 use Rattle.budget.proofs.FlowBudget as B
 use Rattle.budget.proofs.FlowBudget.Laws as B′
+use Rattle.sheet.specs.Decode.{partsOf}
+use Rattle.script.specs.Script.{parameterIn}
 use Rattle.memory.specs.declared.layout.Layout.{Layout}
 use Rattle.memory.specs.Scratch.{scratch}
 use Rattle.memory.proofs.layout.Layout as Y
@@ -62,26 +64,26 @@ use Rattle.examine.specs.declared.Examined.{Examined}
 use Rattle.examine.specs.Examine.{Examines}
 use Rattle.examine.proofs.Examined as E
 use Rattle.examine.proofs.Examined.Laws as E′
-use Rattle.flow.specs.declared.Answer.{Answer}
-use Rattle.flow.specs.Verify.{answerIn, layoutIn}
-use Rattle.flow.proofs.Answer as An
-use Rattle.flow.proofs.Answer.Laws as An′
+use Rattle.answers.specs.declared.Answer.{Answer}
+use Rattle.answers.specs.Answers.{answerIn, layoutIn}
+use Rattle.answers.proofs.Answer as An
+use Rattle.answers.proofs.Answer.Laws as An′
 use Rattle.flow_blocks.proofs.Again.{LentAgain, lends-again, comes-back}
 use Rattle.flow_blocks.proofs.Forms.{word, bytes, list, words, mut-word, mut-words, mut-block, mut-blocks, imm-word, imm-words, asks-no-more}
-use Rattle.flow.proofs.VerifyLaws.{fill-asks}
+use Rattle.answers.proofs.AnswerLaws.{fill-asks}
 use Rattle.flow_blocks.proofs.BlockLaws.{blocks-verified}
 use Rattle.block_records.proofs.fill as fill
 use Rattle.block_records.proofs.fill.Symbol as fill-def
 use Rattle.block_records.proofs.fill.Symbol.{name as #block-records·fill}
 use Rattle.block_records.proofs.fill.Met as fill-thm
-use Rattle.flow.proofs.layout_of as lay
-use Rattle.flow.proofs.layout_of.Symbol as lay-def
-use Rattle.flow.proofs.layout_of.Symbol.{name as #flow·layout-of}
-use Rattle.flow.proofs.layout_of.Met as lay-thm
-use Rattle.flow_blocks.proofs.examined as ex
-use Rattle.flow_blocks.proofs.examined.Symbol as ex-def
-use Rattle.flow_blocks.proofs.examined.Symbol.{name as #flow-blocks·examined}
-use Rattle.flow_blocks.proofs.examined.Met as ex-thm
+use Rattle.answers.proofs.layout_of as lay
+use Rattle.answers.proofs.layout_of.Symbol as lay-def
+use Rattle.answers.proofs.layout_of.Symbol.{name as #answers·layout-of}
+use Rattle.answers.proofs.layout_of.Met as lay-thm
+use Rattle.answers.proofs.examined as ex
+use Rattle.answers.proofs.examined.Symbol as ex-def
+use Rattle.answers.proofs.examined.Symbol.{name as #answers·examined}
+use Rattle.answers.proofs.examined.Met as ex-thm
 use Rattle.flow_blocks.proofs.finish as fin
 use Rattle.flow_blocks.proofs.finish.Symbol as fin-def
 use Rattle.flow_blocks.proofs.finish.Symbol.{name as #flow-blocks·finish}
@@ -190,7 +192,7 @@ module _ {M : Type 1} (𝓤 : URA M) (H : Heap 𝓤) (A : Atoms 𝓤) (W : Given
 
   -- ---- from the end: what is left once `finish` has returned
 
-  module _ (e : Examined) (vs ts : List ℕ) (h : Examines (z .now) todays (length (x .now)) d us vs (t .now) ts e) (long : length vs ≡ length us) (long-t : length ts ≡ length (t .now))
+  module _ (e : Examined) (vs ts : List ℕ) (h : Examines (z .now) (parameterIn (partsOf (z .now))) todays (length (x .now)) d us vs (t .now) ts e) (long : length vs ≡ length us) (long-t : length ts ≡ length (t .now))
       (u : Val) (is : Is E.the-row e (u ∷ [])) where
     exits : (p : Layout) → p ≡ layoutIn e → (bs : List Block) → bs ≡ tabulate 0 (length (x .now)) (listedBlock (scratch p vs) (p .blocks)) → length bs ≡ length (x .now)
         → (r : Answer) (ws : List ℕ) → (r ≡ answerIn e) × (ws ≡ replicate (length vs) 0) → length ws ≡ length vs → (v : Val)
@@ -216,7 +218,7 @@ module _ {M : Type 1} (𝓤 : URA M) (H : Heap 𝓤) (A : Atoms 𝓤) (W : Given
         qed W (‵ (flft κ₃ q₃) ∷ ‵ (OwnW vs) ∷ []) ∵ suffices ! _ (asks-no-more 𝓤 _) $ nothing ! $ move ! (1 ∷ 0 ∷ []) $ join ! $ frame ! $
         nothing ! $ owned ! E.the-row (Is E.the-row) (EL.makes E.the-type E′.the-plain 𝓤 H A) e _ is $ fjoin ! $ move ! (1 ∷ 0 ∷ []) $ fjoin ! $ done !
 
-  module _ (𝓣 : Tables 𝓤 H) (fm : FmC 𝓤 H (W .laws) (𝓣 .C)) (known-ex : Triple 𝓤 (𝓣 .C #flow-blocks·examined) (Ex 𝓤 H A mem run)) (known-lay : Triple 𝓤 (𝓣 .C #flow·layout-of) (Lay 𝓤 H A mem run))
+  module _ (𝓣 : Tables 𝓤 H) (fm : FmC 𝓤 H (W .laws) (𝓣 .C)) (known-ex : Triple 𝓤 (𝓣 .C #answers·examined) (Ex 𝓤 H A mem run)) (known-lay : Triple 𝓤 (𝓣 .C #answers·layout-of) (Lay 𝓤 H A mem run))
       (known-fill : Triple 𝓤 (𝓣 .C #block-records·fill) (Fill 𝓤 H A mem run)) (known-fin : Triple 𝓤 (𝓣 .C #flow-blocks·finish) (Fin 𝓤 H A mem run)) where
     module _ (l₀ l₁ l₂ l₃ l₄ l₅ l₆ l₇ l₈ l₉ l₁₀ l₁₁ l₁₂ l₁₃ l₁₄ l₁₅ l₁₆ l₁₇ l₁₈ l₁₉ : ℕ) where
       abbrev En : Env 𝓤 H
@@ -237,7 +239,7 @@ module _ {M : Type 1} (𝓤 : URA M) (H : Heap 𝓤) (A : Atoms 𝓤) (W : Given
       abbrev At₆ : Val → Item 𝓤
       At₆ v = ‵ (fat fullShare E′.mir l₆ 0 v)
 
-      module _ (e : Examined) (vs ts : List ℕ) (h : Examines (z .now) todays (length (x .now)) d us vs (t .now) ts e) (long : length vs ≡ length us) (long-t : length ts ≡ length (t .now))
+      module _ (e : Examined) (vs ts : List ℕ) (h : Examines (z .now) (parameterIn (partsOf (z .now))) todays (length (x .now)) d us vs (t .now) ts e) (long : length vs ≡ length us) (long-t : length ts ≡ length (t .now))
           (u : Val) (is : Is E.the-row e (u ∷ [])) where
         -- the call of `finish`
         ended : (p : Layout) → p ≡ layoutIn e → (bs : List Block) → bs ≡ tabulate 0 (length (x .now)) (listedBlock (scratch p vs) (p .blocks)) → length bs ≡ length (x .now) → (u′ : Val)
@@ -319,8 +321,8 @@ module _ {M : Type 1} (𝓤 : URA M) (H : Heap 𝓤) (A : Atoms 𝓤) (W : Given
           -- [what `examined` asks; the sheet; what is kept; κ₁; the block list; _19; …]
           calls-at ! fm (Ex 𝓤 H A mem run) known-ex (to-ex ν δ) (and-then ! (load ! (from ! (stop !)) (look ! 41 refl)) (and-then ! (load ! (from ! (stop !)) (look ! 25 refl)) (and-then ! (load ! (from ! (stop !)) (look ! 21 refl)) (and-then ! (load ! (from ! (stop !)) (look ! 19 refl)) (and-then ! (load ! (from ! (stop !)) (look ! 39 refl)) (no-more !)))))) (λ u.
           use1 W (later (some (λ (e : Examined). ((‵ (flft κ₀ q₀) ⊛ ‵ (flft (ν ∷ []) fullShare) ⊛ ‵ (flft κ₂ q₂) ⊛ ‵ ftrue) ⊛ ‵ (E.the-row .own e (u ∷ []))) ⊛ raw (ensured 𝓤 H A ex.ended (ex.clauses 𝓤 H A mem run) (κ₀, (ν ∷ [], (κ₂, tt))) (z, (y δ us, (t, (length (x .now), (d, tt))))) tt e)))) (id⊢ 𝓤 _) $ await ! tt $ pick ! (λ e.
-          split ! $ move ! (1 ∷ []) $ use1 W (some (λ (ls : Unit {0} × (List ℕ × (List ℕ × (Unit {0} × (Unit {0} × Unit {0}))))). ‵ (lasts ex.ended (κ₀, (ν ∷ [], (κ₂, tt))) (z, (y δ us, (t, (length (x .now), (d, tt))))) ls) ⊛ raw (fact 𝓤 (Examines (z .now) todays (length (x .now)) d us (ls .1 .0) (t .now) (ls .1 .1 .0) e)))) (id⊢ 𝓤 _) $ pick ! (λ ls.
-          split ! $ move ! (1 ∷ []) $ heard ! (Examines (z .now) todays (length (x .now)) d us (ls .1 .0) (t .now) (ls .1 .1 .0) e) (λ h. fsplit ! $ drop ! $ fsplit ! $ fsplit ! $ move ! (1 ∷ []) $ feqL ! (λ long.
+          split ! $ move ! (1 ∷ []) $ use1 W (some (λ (ls : Unit {0} × (List ℕ × (List ℕ × (Unit {0} × (Unit {0} × Unit {0}))))). ‵ (lasts ex.ended (κ₀, (ν ∷ [], (κ₂, tt))) (z, (y δ us, (t, (length (x .now), (d, tt))))) ls) ⊛ raw (fact 𝓤 (Examines (z .now) (parameterIn (partsOf (z .now))) todays (length (x .now)) d us (ls .1 .0) (t .now) (ls .1 .1 .0) e)))) (id⊢ 𝓤 _) $ pick ! (λ ls.
+          split ! $ move ! (1 ∷ []) $ heard ! (Examines (z .now) (parameterIn (partsOf (z .now))) todays (length (x .now)) d us (ls .1 .0) (t .now) (ls .1 .1 .0) e) (λ h. fsplit ! $ drop ! $ fsplit ! $ fsplit ! $ move ! (1 ∷ []) $ feqL ! (λ long.
           move ! (1 ∷ []) $ fsplit ! $ fsplit ! $ move ! (1 ∷ []) $ feqL ! (λ long-t.
           -- [the last sets; …; the last words of scratch; the tokens and the result; the sheet; what is kept; κ₁; the block list; _19; …]
           move ! (3 ∷ []) $ split ! $ move ! (1 ∷ []) $ peeks ! E.the-row (Is E.the-row) (shows 𝓤 H A E.the-row) e (u ∷ []) (λ is.
@@ -348,8 +350,8 @@ module _ {M : Type 1} (𝓤 : URA M) (H : Heap 𝓤) (A : Atoms 𝓤) (W : Given
         -- [κ₃; …; κ₂; κ₁; κ₀; scratch; …; sets; the block list; the sheet; _19; …]
         keep ! (5 ∷ 0 ∷ 4 ∷ 3 ∷ 2 ∷ 7 ∷ 9 ∷ 8 ∷ 10 ∷ 11 ∷ 12 ∷ 13 ∷ 14 ∷ 15 ∷ 16 ∷ 17 ∷ 18 ∷ 19 ∷ 20 ∷ 21 ∷ 22 ∷ 23 ∷ 24 ∷ 25 ∷ 26 ∷ 27 ∷ 28 ∷ 29 ∷ 30 ∷ 31 ∷ 32 ∷ 33 ∷ 34 ∷ 35 ∷ 36 ∷ 37 ∷ 38 ∷ 39 ∷ 40 ∷ 41 ∷ 42 ∷ 43 ∷ 44 ∷ 45 ∷ 46 ∷ 47 ∷ 48 ∷ 49 ∷ []) $ begun l₀ l₁ l₂ l₃ l₄ l₅ l₆ l₇ l₈ l₉ l₁₀ l₁₁ l₁₂ l₁₃ l₁₄ l₁₅ l₁₆ l₁₇ l₁₈ l₁₉))))))))))))))))))))
 
-module _ {M : Type 1} (𝓤 : URA M) (H : Heap 𝓤) (A : Atoms 𝓤) (W : Given 𝓤 H A) (mem : Memory → SProp 𝓤) (run : Routine → Fun 𝓤) (𝓣 : Tables 𝓤 H) (known-ex : Triple 𝓤 (𝓣 .C #flow-blocks·examined) (Ex 𝓤 H A mem run))
-    (known-lay : Triple 𝓤 (𝓣 .C #flow·layout-of) (Lay 𝓤 H A mem run)) (known-fill : Triple 𝓤 (𝓣 .C #block-records·fill) (Fill 𝓤 H A mem run)) (known-fin : Triple 𝓤 (𝓣 .C #flow-blocks·finish) (Fin 𝓤 H A mem run)) where
+module _ {M : Type 1} (𝓤 : URA M) (H : Heap 𝓤) (A : Atoms 𝓤) (W : Given 𝓤 H A) (mem : Memory → SProp 𝓤) (run : Routine → Fun 𝓤) (𝓣 : Tables 𝓤 H) (known-ex : Triple 𝓤 (𝓣 .C #answers·examined) (Ex 𝓤 H A mem run))
+    (known-lay : Triple 𝓤 (𝓣 .C #answers·layout-of) (Lay 𝓤 H A mem run)) (known-fill : Triple 𝓤 (𝓣 .C #block-records·fill) (Fill 𝓤 H A mem run)) (known-fin : Triple 𝓤 (𝓣 .C #flow-blocks·finish) (Fin 𝓤 H A mem run)) where
   verify-walks : FmC 𝓤 H (W .laws) (𝓣 .C) → Walks 𝓤 H A f.ended stayed (WpFn 𝓤 H (𝓣 .C) (𝓣 .Λ) code.function) (f.clauses 𝓤 H A mem run)
   verify-walks fm = walked 𝓤 H A f.ended stayed (f.clauses 𝓤 H A mem run) (WpFn 𝓤 H (𝓣 .C) (𝓣 .Λ) code.function) (λ κs. (slice-vals, (LL.vals B.the-type B′.the-laws, (slice-vals, (slice-vals, (slice-vals, tt))))))
       (λ κs. (shr-slice-tells (named 0) (κs .0) u8, (LL.tells B.the-type B′.the-laws, (mut-slice-tells (named 1) (κs .1 .0) T.the-row, (mut-slice-tells (named 2) (κs .1 .1 .0) u64, (mut-slice-tells (named 3) (κs .1 .1 .1 .0) u64, tt))))))
@@ -369,7 +371,7 @@ verify-spec 𝓤 H 𝓜 𝓖 𝓡 =
     entered 𝓤 H (tripleOf 𝓤 H (𝓖 .A) f.signature (f.spec 𝓤 H (𝓖 .A) (𝓜 .mem) (𝓡 .run)))
     (tables 𝓤 H 𝓜 𝓡 code.env .C) (tables 𝓤 H 𝓜 𝓡 code.env .Λ) #flow-blocks·verify code.function (code.unfolded 𝓤 H 𝓜 𝓡)
     (verify-meets 𝓤 H (𝓖 .A) (givenOf 𝓤 H 𝓜 𝓖) (𝓜 .mem) (𝓡 .run) (tablesOf 𝓤 H 𝓜 (tables 𝓤 H 𝓜 𝓡 code.env))
-    (cited 𝓤 H (Ex 𝓤 H (𝓖 .A) (𝓜 .mem) (𝓡 .run)) 𝓜 𝓡 code.env #flow-blocks·examined ex-def.routine code.calls-flow-blocks·examined (ex-thm.met 𝓤 H 𝓜 𝓖 𝓡))
-    (cited 𝓤 H (Lay 𝓤 H (𝓖 .A) (𝓜 .mem) (𝓡 .run)) 𝓜 𝓡 code.env #flow·layout-of lay-def.routine code.calls-flow·layout-of (lay-thm.met 𝓤 H 𝓜 𝓖 𝓡))
+    (cited 𝓤 H (Ex 𝓤 H (𝓖 .A) (𝓜 .mem) (𝓡 .run)) 𝓜 𝓡 code.env #answers·examined ex-def.routine code.calls-answers·examined (ex-thm.met 𝓤 H 𝓜 𝓖 𝓡))
+    (cited 𝓤 H (Lay 𝓤 H (𝓖 .A) (𝓜 .mem) (𝓡 .run)) 𝓜 𝓡 code.env #answers·layout-of lay-def.routine code.calls-answers·layout-of (lay-thm.met 𝓤 H 𝓜 𝓖 𝓡))
     (cited 𝓤 H (Fill 𝓤 H (𝓖 .A) (𝓜 .mem) (𝓡 .run)) 𝓜 𝓡 code.env #block-records·fill fill-def.routine code.calls-block-records·fill (fill-thm.met 𝓤 H 𝓜 𝓖 𝓡))
     (cited 𝓤 H (Fin 𝓤 H (𝓖 .A) (𝓜 .mem) (𝓡 .run)) 𝓜 𝓡 code.env #flow-blocks·finish fin-def.routine code.calls-flow-blocks·finish (fin-thm.met 𝓤 H 𝓜 𝓖 𝓡)))

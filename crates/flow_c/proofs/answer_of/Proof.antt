@@ -4,8 +4,8 @@ use Prim.Native.Nat.{ℕ}
 use native.Mathlib.Omega.{arith}
 use borrow.Author.Needs.{needs}
 use Rattle.budget.specs.declared.FlowBudget.{FlowBudget}
-use Rattle.flow.specs.declared.Answer.{Answer}
-use Rattle.flow.specs.Verify.{outcomeBy}
+use Rattle.answers.specs.declared.Answer.{Answer}
+use Rattle.answers.specs.Answers.{outcomeBy}
 use Rattle.flow_c.specs.declared.FlowAnswer.{FlowAnswer}
 use Rattle.flow_c.specs.Exports.{answerOf}
 use Rattle.flow_c.proofs.HostLaws.{number-small}

@@ -43,10 +43,10 @@ use Rattle.budget.proofs.FlowBudget as B
 use Rattle.budget.proofs.FlowBudget.Laws as B′
 use Rattle.block_records.specs.declared.Block.{Block}
 use Rattle.block_records.proofs.Block as T
-use Rattle.flow.specs.declared.Answer.{Answer}
-use Rattle.flow.specs.Verify.{outcomeBy}
-use Rattle.flow.proofs.Answer as An
-use Rattle.flow.proofs.Answer.Laws as An′
+use Rattle.answers.specs.declared.Answer.{Answer}
+use Rattle.answers.specs.Answers.{outcomeBy}
+use Rattle.answers.proofs.Answer as An
+use Rattle.answers.proofs.Answer.Laws as An′
 use Rattle.flow_blocks.specs.BlocksVerify.{BlocksVerified}
 use Rattle.flow_blocks.proofs.Forms.{bytes, list, words, mut-word, mut-words, mut-block, mut-blocks, asks-no-more}
 use Rattle.flow_c.specs.declared.HostBudget.{HostBudget}

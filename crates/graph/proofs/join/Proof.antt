@@ -15,7 +15,7 @@ same-length c = search needs
 
 returns : tie.Need-returns
 returns c =
-    joined _ _ _ _ _ (c .before .before .before .before .before .before .predecessors .ensures) (c .before .before .parameters .ensures)
+    joined _ _ _ _ (c .before .before .before .before .before .before .predecessors .ensures) (c .before .before .parameters .ensures)
 
 pub join-spec : {M : Type 1} → statement M
 join-spec = tie.close (tie.spec predecessors-requires parameters-requires same-length returns)

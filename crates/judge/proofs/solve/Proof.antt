@@ -1,5 +1,5 @@
 -- `judge::solve` meets its contract. Assumes nothing.
-use mathlib.Core.Path.{ap}
+use mathlib.Core.Path.{refl, ap}
 use native.Mathlib.Omega.{arith}
 use denote.Ref.{now}
 use Rattle.judge.proofs.SolveLaws.{rounds-ask, hosts-ask, points-ask, solves-over, solves-on}
@@ -13,7 +13,7 @@ fixed-points-requires : tie.Need-fixed-points-requires
 fixed-points-requires c κs =
     let b = c .before .before .before .before .before in
     let a = b .args in
-    rounds-ask (now (a .sheet)) (a .script) (a .y) _ _ (b .pre .2) (a .limits) _ _ (b .pre .0) (b .pre .1) (b .pre .3)
+    rounds-ask (now (a .sheet)) _ (a .script) (a .y) _ _ (b .pre .2) (a .limits) _ _ (b .pre .0) (b .pre .1) (b .pre .3)
 
 enum-known-c : tie.Need-enum-known-c
 enum-known-c c = search needs
@@ -35,7 +35,7 @@ returns c =
     let f = c .before .before .before .before .before .before .before in
     let b = f .before .before .before .before .before .before in
     let a = b .args in
-    solves-over (now (a .sheet)) (a .script) (a .y) _ _ (b .pre .2) (a .limits) (a .budget) _ _ _ (f .fixed-points .ensures)
+    solves-over (now (a .sheet)) _ (a .script) (a .y) _ _ (b .pre .2) (a .limits) (a .budget) _ _ _ (f .fixed-points .ensures)
     _ _ _ _ (c .before .enum-told .given .1) (ap (Refused WorkLimit) (c .budget .ensures))
 
 hosts-if-requires : tie.Need-hosts-if-requires
@@ -43,7 +43,7 @@ hosts-if-requires c κs =
     let f = c .before .before .before .before .before .before .before .before in
     let b = f .before .before .before .before .before .before in
     let a = b .args in
-    hosts-ask (now (a .sheet)) (a .script) (a .y) _ _ (b .pre .2) _ _ (omega (arith, f .fixed-points .kept .0)) (b .pre .0)
+    hosts-ask (now (a .sheet)) _ (a .script) (a .y) _ _ (b .pre .2) _ _ (omega (arith, f .fixed-points .kept .0)) (b .pre .0)
 
 check-points-requires : tie.Need-check-points-requires
 check-points-requires c κs =
@@ -52,8 +52,8 @@ check-points-requires c κs =
     let f = e .before .before .before .before .before .before in
     let b = f .before .before .before .before .before .before in
     let a = b .args in
-    points-ask (now (a .sheet)) (a .script) (a .y) _ _ (b .pre .2) (a .limits) (a .budget) _ _ _ (f .fixed-points .ensures)
-    _ (e .c .given .1) _ (h .hosts-if .ensures)
+    points-ask (now (a .sheet)) _ (a .script) (a .y) _ _ (b .pre .2) (a .limits) (a .budget) _ _ _ (f .fixed-points .ensures)
+    _ (e .c .given .1) _ (h .hosts-if .ensures) refl
     _ _ _ _ (omega (arith, f .fixed-points .kept .0, h .hosts-if .kept .1)) (omega (arith, f .fixed-points .kept .1)) (b .pre .0) (b .pre .1)
 
 point-requires : tie.Need-point-requires
@@ -73,8 +73,8 @@ returns-2 c =
     let f = e .before .before .before .before .before .before in
     let b = f .before .before .before .before .before .before in
     let a = b .args in
-    solves-on (now (a .sheet)) (a .script) (a .y) _ _ (b .pre .2) (a .limits) (a .budget) _ _ _ (f .fixed-points .ensures)
-    _ (e .c .given .1) _ (h .hosts-if .ensures) _ _ _ (q .check-points .ensures) _ (c .point .ensures)
+    solves-on (now (a .sheet)) _ (a .script) (a .y) _ _ (b .pre .2) (a .limits) (a .budget) _ _ _ (f .fixed-points .ensures)
+    _ (e .c .given .1) _ (h .hosts-if .ensures) refl _ _ _ (q .check-points .ensures) _ (c .point .ensures)
 
 pub solve-spec : {M : Type 1} → statement M
 solve-spec =

@@ -9,9 +9,10 @@ use Rattle.dataflow.specs.Code.{Instruction}
 use Rattle.memory.specs.Cells.{cell}
 use Rattle.memory.specs.Scratch.{scratch}
 use Rattle.memory.proofs.ScratchLaws.{row-length}
-use Rattle.script.specs.Script.{flowCode, parameterIn}
+use Rattle.script.specs.Script.{flowCode}
 use Rattle.script.proofs.ScriptLaws.{code-at}
 use Rattle.sheet.specs.Decode.{partsOf}
+use Rattle.reads.specs.Reads.{heldSet}
 use Rattle.reads.proofs.FrontLaws.{charged-filled}
 use borrow.Author.Needs.{needs}
 use Rattle.reads.proofs.block_reads.Statement.{statement}
@@ -38,7 +39,7 @@ returns c =
     let e = test .before .before .before .before .before .before .before in
     let a = e .args in
     let m = scratch (a .y) (now (a .s)) in
-    charged-filled (flowCode (partsOf (now (a .sheet)))) (parameterIn (partsOf (now (a .sheet)))) (a .y) (a .limits) (a .budget) (a .block) (a .start)
+    charged-filled (flowCode (partsOf (now (a .sheet)))) (heldSet (a .y) m) (a .y) (a .limits) (a .budget) (a .block) (a .start)
     (a .end) m _ (e .pre .4)
     (λ i h. ap (λ (v : Instruction). v .emptied)
     (code-at (now (a .sheet)) (a .script) (e .pre .1 .sound) i (omega (arith, h, e .pre .5, e .pre .1 .instructions))))

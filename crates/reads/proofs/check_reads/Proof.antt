@@ -14,12 +14,13 @@ use Rattle.memory.specs.Scratch.{scratch, Room, Row}
 use Rattle.memory.proofs.ScratchLaws.{scratch-length, row-length, place-instructions}
 use Rattle.operands.specs.Instructions.{valuesOf}
 use Rattle.operands.specs.Operands.{inputsOf}
-use Rattle.script.specs.Script.{flowCode, parameterIn}
+use Rattle.script.specs.Script.{flowCode}
 use Rattle.sheet.specs.Decode.{partsOf}
 use Rattle.blocks.proofs.OperandLaws.{inputs-few}
 use Rattle.reads.proofs.ReadLaws.{Reading, reading-none, reading-more, reads-filled, reads-over, reads-unfilled}
 use Rattle.reads.proofs.ReadLaws.{reading-coded, noted-cost, noted-stands, noted-read, counted-once}
 use borrow.Author.Needs.{needs}
+use Rattle.reads.specs.Reads.{heldSet}
 use Rattle.reads.specs.declared.Reads.the-variants.{Over}
 use Rattle.reads.proofs.check_reads.Statement.{statement}
 use Rattle.reads.proofs.check_reads.Tie as tie
@@ -33,7 +34,7 @@ abbrev μ-loop : tie.MeasureT-loop
 
 abbrev Inv-block : tie.InvT-block
 Inv-block sheet s₀ y start end limits state left₀ awaits₀ pc₀ s left awaits pc = (start ≤ pc) × (pc ≤ end) × (length s ≡ length s₀) × Reading
-    (flowCode (partsOf sheet)) (parameterIn (partsOf sheet)) y limits left₀ left start end pc awaits (scratch y s₀) (scratch y s)
+    (flowCode (partsOf sheet)) (heldSet y (scratch y s₀)) y limits left₀ left start end pc awaits (scratch y s₀) (scratch y s)
 
 abbrev μ-block : tie.MeasureT-block
 μ-block sheet s₀ y start end limits state left₀ awaits₀ pc₀ s left awaits pc = end - pc

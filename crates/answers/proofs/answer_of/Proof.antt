@@ -1,9 +1,9 @@
--- `flow::answer_of` meets its contract. Assumes nothing.
+-- `answers::answer_of` meets its contract. Assumes nothing.
 use mathlib.Core.Path.{sym, ap}
-use Rattle.flow.specs.Verify.{answerIn}
+use Rattle.answers.specs.Answers.{answerIn}
 use borrow.Author.Needs.{needs}
-use Rattle.flow.proofs.answer_of.Statement.{statement}
-use Rattle.flow.proofs.answer_of.Tie as tie
+use Rattle.answers.proofs.answer_of.Statement.{statement}
+use Rattle.answers.proofs.answer_of.Tie as tie
 
 enum-known-e : tie.Need-enum-known-e
 enum-known-e c = search needs

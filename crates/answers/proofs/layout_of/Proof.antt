@@ -1,9 +1,9 @@
--- `flow::layout_of` meets its contract. Assumes nothing.
+-- `answers::layout_of` meets its contract. Assumes nothing.
 use mathlib.Core.Path.{sym, ap}
-use Rattle.flow.specs.Verify.{layoutIn}
+use Rattle.answers.specs.Answers.{layoutIn}
 use borrow.Author.Needs.{needs}
-use Rattle.flow.proofs.layout_of.Statement.{statement}
-use Rattle.flow.proofs.layout_of.Tie as tie
+use Rattle.answers.proofs.layout_of.Statement.{statement}
+use Rattle.answers.proofs.layout_of.Tie as tie
 
 enum-known-e : tie.Need-enum-known-e
 enum-known-e c = search needs

@@ -1,0 +1,2 @@
+-- What every form of the call shares.
+pub mod Answers

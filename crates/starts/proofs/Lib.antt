@@ -1,0 +1,2 @@
+-- Laws of the set that block 0 starts from.
+pub mod StartLaws

@@ -1,0 +1,2 @@
+-- The set that block 0 starts from.
+pub mod Starts
