@@ -2,7 +2,7 @@
 use mathlib.Core.Path.{_≡_, refl, sym, ap, ap₂, subst, _∙_}
 use mathlib.Core.Bool.{Bool, true, false}
 use mathlib.Core.List.{[], _∷_}
-use Prim.Native.Nat.{ℕ, _+_, _*_}
+use Prim.Native.Nat.{ℕ, _+_}
 use native.Mathlib.Omega.{arith}
 use Rattle.bitset.specs.Sets.{common}
 use Rattle.budget.specs.declared.FlowBudget.{FlowBudget}
@@ -13,7 +13,7 @@ use Rattle.budget.specs.Budget.{charged, retained, factsBytes, budgetOf}
 use Rattle.format.specs.declared.refusal.Refusal.{Refusal}
 use Rattle.format.specs.declared.refusal.Refusal.the-variants.{WorkLimit, HostOverAwait, FactsLimit}
 use Rattle.memory.specs.Cells.{Mem, cell, storeCell}
-use Rattle.memory.specs.Names.{liveStateRow, hostsRow}
+use Rattle.memory.specs.Names.{liveStateRow, hostsRow, awaitEntry}
 use Rattle.memory.specs.declared.layout.Layout.{Layout}
 use Rattle.awaits.specs.declared.Points.{Points}
 use Rattle.awaits.specs.declared.Points.the-variants.{Passed, Refused}
@@ -58,13 +58,13 @@ module _ (y : Layout) (l : Limits) (slots : ℕ) (b : FlowBudget) (pc place : �
             (rw (sym e ∙ f, sym common-is ∙ q, kept-is ∙ i) refl)
 
         -- it passes, and its facts are put
-        pub await-passed : (x : FlowBudget) (t′ : Mem) (p j : ℕ) → w ≡ Ok x → p + 1 ≡ place → j ≡ liveStateRow (y .blocks)
-            → t′ ≡ storeCell t (2 * y .blocks + p) (pc ∷ cell m j) → AwaitChecked true y l slots b pc place m t t′ (Passed p x)
+        pub await-passed : (x : FlowBudget) (t′ : Mem) (p a j : ℕ) → w ≡ Ok x → p + 1 ≡ place → a ≡ awaitEntry (y .blocks) p → j ≡ liveStateRow (y .blocks)
+            → t′ ≡ storeCell t a (pc ∷ cell m j) → AwaitChecked true y l slots b pc place m t t′ (Passed p x)
         unfolding awaitRows
-        await-passed x t′ p j i ep ej et = record {
+        await-passed x t′ p a j i ep ea ej et = record {
           answer = sym (rw (sym e ∙ f, sym common-is ∙ q, kept-is ∙ i) refl);
           places = λ n left g. let z : p ≡ n = cc in omega arith;
-          entry = λ n left g. let z : p ≡ n = cc in et ∙ ap₂ (λ (a c : ℕ). storeCell t (2 * y .blocks + a) (pc ∷ cell m c)) z ej;
+          entry = λ n left g. let z : p ≡ n = cc in et ∙ ap₂ (λ (k c : ℕ). storeCell t k (pc ∷ cell m c)) (ea ∙ ap (awaitEntry (y .blocks)) z) ej;
         }
 
   -- an instruction that is no await

@@ -2,7 +2,7 @@
 use mathlib.Core.Path.{_≡_, refl, sym, ap, subst, _∙_}
 use mathlib.Core.Bool.{Bool, true, false}
 use mathlib.Core.List.{List, [], _∷_}
-use Prim.Native.Nat.{ℕ, zero, suc, _+_, _*_, _-_, _≤_, _<_}
+use Prim.Native.Nat.{ℕ, zero, suc, _+_, _-_, _≤_, _<_}
 use native.Mathlib.Omega.{arith}
 use lib.ListN.{length}
 use Rattle.dataflow.specs.Lists.{pick, range, keep}
@@ -13,7 +13,7 @@ use Rattle.budget.specs.declared.FlowBudget.{FlowBudget}
 use Rattle.budget.specs.declared.Limits.{Limits}
 use Rattle.format.specs.declared.refusal.Refusal.{Refusal}
 use Rattle.memory.specs.Cells.{Mem, cell, storeCell}
-use Rattle.memory.specs.Names.{offsetCell, costCell, liveStateRow, hostsRow}
+use Rattle.memory.specs.Names.{offsetCell, costCell, liveStateRow, hostsRow, awaitEntry}
 use Rattle.memory.specs.declared.layout.Layout.{Layout}
 use Rattle.memory.proofs.CellLaws.{cell-store-same, cell-store-other}
 use Rattle.sheet.specs.declared.script.Script.{Script}
@@ -112,23 +112,23 @@ module _ (s : List ℕ) (parameter : ℕ → Bool) (x : Script) (y : Layout) (l 
 
 -- they stay where their cells do
 pub entries-kept : (y : Layout) (t t′ : Mem) (first : ℕ) (ps : List Point)
-    → ((k : ℕ) → 2 * y .blocks + first ≤ k → k < 2 * y .blocks + (first + length ps) → cell t′ k ≡ cell t k)
+    → ((k : ℕ) → awaitEntry (y .blocks) first ≤ k → k < awaitEntry (y .blocks) (first + length ps) → cell t′ k ≡ cell t k)
     → Entries y t first ps → Entries y t′ first ps
 entries-kept y t t′ first [] h a = tt
 entries-kept y t t′ first (p ∷ ps) h a = (
-  subst (λ (ws : List ℕ). Entry (y .words) ws p) (sym (h (2 * y .blocks + first) (omega arith) (omega arith))) (a .0),
+  subst (λ (ws : List ℕ). Entry (y .words) ws p) (sym (h (awaitEntry (y .blocks) first) (omega arith) (omega arith))) (a .0),
   entries-kept y t t′ (first + 1) ps (λ k g l. h k (omega arith) (omega arith)) (a .1),
 )
 
 -- an await's facts are put before them
 entries-more : (y : Layout) (t t′ : Mem) (n next pc : ℕ) (row : List ℕ) (live : ℕ → Bool) (ps : List Point) (v : Bool)
-    → 2 * y .blocks + next ≤ length t → n + pick v 1 0 ≡ next → t′ ≡ pick v (storeCell t (2 * y .blocks + n) (pc ∷ row)) t
+    → awaitEntry (y .blocks) next ≤ length t → n + pick v 1 0 ≡ next → t′ ≡ pick v (storeCell t (awaitEntry (y .blocks) n) (pc ∷ row)) t
     → Means (y .words) row live → Entries y t next ps → Entries y t′ n (pick v (record { instruction = pc; live = live } ∷ ps) ps)
 entries-more y t t′ n next pc row live ps true h e f m a =
     let q : next ≡ n + 1 = omega arith in (
-      (row, ap (λ (w : Mem). cell w (2 * y .blocks + n)) f ∙ cell-store-same t (2 * y .blocks + n) (pc ∷ row) (omega arith), m),
+      (row, ap (λ (w : Mem). cell w (awaitEntry (y .blocks) n)) f ∙ cell-store-same t (awaitEntry (y .blocks) n) (pc ∷ row) (omega arith), m),
       entries-kept y t t′ (n + 1) ps
-          (λ k g l. ap (λ (w : Mem). cell w k) f ∙ cell-store-other t (2 * y .blocks + n) (pc ∷ row) k (λ w. omega arith))
+          (λ k g l. ap (λ (w : Mem). cell w k) f ∙ cell-store-other t (awaitEntry (y .blocks) n) (pc ∷ row) k (λ w. omega arith))
           (subst (λ (k : ℕ). Entries y t k ps) q a),
     )
 entries-more y t t′ n next pc row live ps false h e f m a =
@@ -136,10 +136,9 @@ entries-more y t t′ n next pc row live ps false h e f m a =
     subst (λ (w : Mem). Entries y w n ps) (sym f) (subst (λ (k : ℕ). Entries y t k ps) q a)
 
 -- and the cells before stay
-before-stays : (t t′ : Mem) (base n : ℕ) (ws : List ℕ) (v : Bool) → t′ ≡ pick v (storeCell t (base + n) ws) t
-    → (k : ℕ) → k < base + n → cell t′ k ≡ cell t k
-before-stays t t′ base n ws true f k h = ap (λ (w : Mem). cell w k) f ∙ cell-store-other t (base + n) ws k (λ w. omega arith)
-before-stays t t′ base n ws false f k h = ap (λ (w : Mem). cell w k) f
+before-stays : (t t′ : Mem) (e : ℕ) (ws : List ℕ) (v : Bool) → t′ ≡ pick v (storeCell t e ws) t → (k : ℕ) → k < e → cell t′ k ≡ cell t k
+before-stays t t′ e ws true f k h = ap (λ (w : Mem). cell w k) f ∙ cell-store-other t e ws k (λ w. omega arith)
+before-stays t t′ e ws false f k h = ap (λ (w : Mem). cell w k) f
 
 -- ---- after the instructions from pc to end
 
@@ -151,7 +150,7 @@ pub record Awaiting (s : List ℕ) (x : Script) (y : Layout) (l : Limits) (budge
   pub places : next + awaitsAmong (flowCode (partsOf s)) pc end ≡ place
   pub entries : (parameter g : ℕ → Bool) → Means (y .words) (cell m (liveStateRow (y .blocks))) g → Entries y t′ next (pointsFrom s parameter end g pc)
   pub others : (k : ℕ) → (k ≡ liveStateRow (y .blocks) → ⊥) → cell m′ k ≡ cell m k
-  pub other-sets : (k : ℕ) → k < 2 * y .blocks + next → cell t′ k ≡ cell t k
+  pub other-sets : (k : ℕ) → k < awaitEntry (y .blocks) next → cell t′ k ≡ cell t k
 
 -- the instructions can be read as before
 pub awaiting-coded : {s : List ℕ} {x : Script} {y : Layout} {l : Limits} {budget left : FlowBudget} {end pc place next : ℕ} {m m′ t t′ : Mem}
@@ -212,7 +211,7 @@ module _ {s : List ℕ} {x : Script} {y : Layout} {l : Limits} {budget : FlowBud
       }
 
       -- one instruction more
-      pub awaiting-more : {n : ℕ} {paid : FlowBudget} → r ≡ Passed n paid → 2 * y .blocks + next ≤ length t₁
+      pub awaiting-more : {n : ℕ} {paid : FlowBudget} → r ≡ Passed n paid → awaitEntry (y .blocks) next ≤ length t₁
           → Awaiting s x y l budget paid end pc₁ place n m m₂ t t₂
       awaiting-more {n} {paid} e room = record {
         run = λ parameter g h. run-more parameter g h ∙ ap pointsOf e;
@@ -222,6 +221,6 @@ module _ {s : List ℕ} {x : Script} {y : Layout} {l : Limits} {budget : FlowBud
             (entries-more y t₁ t₂ n next pc₁ (cell m₂ (liveStateRow (y .blocks))) _ _ (awaitAt (flowCode (partsOf s)) pc₁) room (c .places n paid e)
             (c .entry n paid e) (c .row n paid e parameter (liveFrom s parameter end g (suc pc₁)) (behind .row parameter g h)) (behind .entries parameter g h));
         others = λ k h. c .others k h ∙ a .others k h;
-        other-sets = λ k h. before-stays t₁ t₂ (2 * y .blocks) n _ (awaitAt (flowCode (partsOf s)) pc₁) (c .entry n paid e) k h
+        other-sets = λ k h. before-stays t₁ t₂ (awaitEntry (y .blocks) n) _ (awaitAt (flowCode (partsOf s)) pc₁) (c .entry n paid e) k h
             ∙ a .other-sets k (omega (arith, c .places n paid e));
       }

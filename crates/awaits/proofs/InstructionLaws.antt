@@ -24,7 +24,7 @@ use Rattle.budget.specs.Budget.{charged, retained, factsBytes, budgetOf}
 use Rattle.format.specs.Types.{absent}
 use Rattle.format.specs.declared.refusal.Refusal.the-variants.{WorkLimit, HostOverAwait}
 use Rattle.memory.specs.Cells.{Mem, cell, storeCell}
-use Rattle.memory.specs.Names.{liveStateRow, hostsRow}
+use Rattle.memory.specs.Names.{liveStateRow, hostsRow, awaitEntry}
 use Rattle.memory.specs.declared.layout.Layout.{Layout}
 use Rattle.memory.proofs.CellLaws.{cell-store-same, cell-store-other}
 use Rattle.operands.specs.Kinds.{isAwait}
@@ -155,6 +155,6 @@ module _ (s : List ℕ) (x : Script) (y : Layout) (l : Limits) (b : FlowBudget) 
         row = λ n left q parameter g h. live-before parameter g h;
         places = λ n left q. ap (λ (v : Bool). n + pick v 1 0) await ∙ d .places n left q;
         entry = λ n left q. d .entry n left q
-            ∙ ap (λ (v : Bool). pick v (storeCell t (2 * y .blocks + n) (pc ∷ cell m₂ (liveStateRow (y .blocks)))) t) (sym await);
+            ∙ ap (λ (v : Bool). pick v (storeCell t (awaitEntry (y .blocks) n) (pc ∷ cell m₂ (liveStateRow (y .blocks)))) t) (sym await);
         others = other-stays;
       }

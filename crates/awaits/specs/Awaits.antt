@@ -2,7 +2,7 @@
 use mathlib.Core.Path.{_≡_}
 use mathlib.Core.Bool.{Bool}
 use mathlib.Core.List.{List, [], _∷_}
-use Prim.Native.Nat.{ℕ, _+_, _*_, _-_, _<_}
+use Prim.Native.Nat.{ℕ, _+_, _-_, _<_}
 use Rattle.bitset.specs.Sets.{common, removed}
 use Rattle.dataflow.specs.Lists.{pick, range}
 use Rattle.dataflow.specs.Analyses.{liveTransfer}
@@ -13,7 +13,7 @@ use Rattle.budget.specs.declared.Limits.{Limits}
 use Rattle.format.specs.declared.refusal.Refusal.the-variants.{HostOverAwait}
 use Rattle.budget.specs.Budget.{charged, retained, factsBytes}
 use Rattle.memory.specs.Cells.{Mem, cell, word, storeCell}
-use Rattle.memory.specs.Names.{costCell, liveStateRow, hostsRow}
+use Rattle.memory.specs.Names.{costCell, liveStateRow, hostsRow, awaitEntry}
 use Rattle.memory.specs.declared.layout.Layout.{Layout}
 use Rattle.sheet.specs.declared.script.Script.{Script}
 use Rattle.sheet.specs.Decode.{partsOf}
@@ -44,7 +44,7 @@ pub record AwaitChecked (await : Bool) (y : Layout) (l : Limits) (slots : ℕ) (
   pub answer : pointsOf r ≡ pick await (awaitRows y l slots m b) (on b)
   pub places : (n : ℕ) (left : FlowBudget) → r ≡ Passed n left → n + pick await 1 0 ≡ place
   pub entry : (n : ℕ) (left : FlowBudget) → r ≡ Passed n left
-      → t′ ≡ pick await (storeCell t (2 * y .blocks + n) (pc ∷ cell m (liveStateRow (y .blocks)))) t
+      → t′ ≡ pick await (storeCell t (awaitEntry (y .blocks) n) (pc ∷ cell m (liveStateRow (y .blocks)))) t
 
 -- what `check_instruction` does at pc, whichever slots are parameters: its cost is charged, the live row becomes the one before it, and an await there is checked
 pub record InstructionChecked (s : List ℕ) (x : Script) (y : Layout) (l : Limits) (b : FlowBudget) (pc place : ℕ) (m m′ t t′ : Mem) (r : Points) : Type 0 where
@@ -55,7 +55,7 @@ pub record InstructionChecked (s : List ℕ) (x : Script) (y : Layout) (l : Limi
       → Means (y .words) (cell m′ (liveStateRow (y .blocks))) (λ i. liveTransfer (program (flowCode (partsOf s)) parameter) pc i (g i))
   pub places : (n : ℕ) (left : FlowBudget) → r ≡ Passed n left → n + pick (awaitAt (flowCode (partsOf s)) pc) 1 0 ≡ place
   pub entry : (n : ℕ) (left : FlowBudget) → r ≡ Passed n left
-      → t′ ≡ pick (awaitAt (flowCode (partsOf s)) pc) (storeCell t (2 * y .blocks + n) (pc ∷ cell m′ (liveStateRow (y .blocks)))) t
+      → t′ ≡ pick (awaitAt (flowCode (partsOf s)) pc) (storeCell t (awaitEntry (y .blocks) n) (pc ∷ cell m′ (liveStateRow (y .blocks)))) t
   pub others : (k : ℕ) → (k ≡ liveStateRow (y .blocks) → ⊥) → cell m′ k ≡ cell m k
 
 -- an entry of the sets buffer holds an await's facts: its instruction, then its set
@@ -65,7 +65,7 @@ Entry w ws p = (row : List ℕ) × (ws ≡ p .instruction ∷ row) × Means w ro
 -- the entries from `first` on hold these points
 abbrev pub Entries : Layout → Mem → ℕ → List Point → Type 0
 Entries y t first [] = Unit {0}
-Entries y t first (p ∷ ps) = Entry (y .words) (cell t (2 * y .blocks + first)) p × Entries y t (first + 1) ps
+Entries y t first (p ∷ ps) = Entry (y .words) (cell t (awaitEntry (y .blocks) first)) p × Entries y t (first + 1) ps
 
 -- what `check_awaits` does with the instructions from start to end, whichever slots are parameters: its awaits' facts stand before entry `place`
 pub record AwaitsChecked (s : List ℕ) (x : Script) (y : Layout) (l : Limits) (b : FlowBudget) (start end place : ℕ) (m m′ t t′ : Mem) (r : Points) : Type 0 where
@@ -75,7 +75,7 @@ pub record AwaitsChecked (s : List ℕ) (x : Script) (y : Layout) (l : Limits) (
   pub entries : (n : ℕ) (left : FlowBudget) → r ≡ Passed n left → (parameter g : ℕ → Bool) → Means (y .words) (cell m (liveStateRow (y .blocks))) g
       → Entries y t′ n (awaitPoints (flowCode (partsOf s)) parameter g (range start (end - start)))
   pub others : (k : ℕ) → (k ≡ liveStateRow (y .blocks) → ⊥) → cell m′ k ≡ cell m k
-  pub other-sets : (n : ℕ) (left : FlowBudget) → r ≡ Passed n left → (k : ℕ) → k < 2 * y .blocks + n → cell t′ k ≡ cell t k
+  pub other-sets : (n : ℕ) (left : FlowBudget) → r ≡ Passed n left → (k : ℕ) → k < awaitEntry (y .blocks) n → cell t′ k ≡ cell t k
 
 -- the costs of a list charged one by one, from the back
 unfoldable pub backRun : (ℕ → ℕ) → Limits → List ℕ → FlowBudget → Checking

@@ -173,6 +173,6 @@ fn check_await(
     let Charged::Ok(kept) = k else {
         return Points::Refused(Refusal::FactsLimit, k.budget());
     };
-    rows::put_await(t, y, 2 * y.blocks + place, pc as u64, s, y.live_state());
+    rows::put_await(t, y, y.await_entry(place), pc as u64, s, y.live_state());
     Points::Passed(place, kept)
 }

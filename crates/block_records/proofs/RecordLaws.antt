@@ -1,9 +1,10 @@
 -- Records of the list, one by one. Assumes nothing.
 use mathlib.Core.Path.{_≡_, refl}
-use Prim.Native.Nat.{ℕ, _+_, _*_, _^_, _%_, _<_, _≤_}
+use Prim.Native.Nat.{ℕ, _^_, _%_, _<_, _≤_}
 use borrow.Author.Tests.{lt-ltb, le-ltb}
 use Rattle.memory.specs.Cells.{Mem, word}
-use Rattle.memory.specs.Names.{startCell, endCell, reachableCell, successorCountCell, successorCell}
+use Rattle.memory.specs.Names.{startCell, endCell, reachableCell, successorCountCell}
+use Rattle.memory.specs.Edges.{edgeWord}
 use Rattle.block_records.specs.Records.{blockIn, zeroBlock, listedBlock}
 use Rattle.block_records.specs.declared.Block.{Block}
 
@@ -11,7 +12,7 @@ module _ (m : Mem) (i : ℕ) where
   -- the block of these six numbers
   pub block-made : {start end reachable count first second : ℕ} → start ≡ word m startCell i % 2 ^ 32 → end ≡ word m endCell i % 2 ^ 32
       → reachable ≡ word m reachableCell i % 2 ^ 32 → count ≡ word m successorCountCell i % 2 ^ 32
-      → first ≡ word m successorCell (2 * i) % 2 ^ 32 → second ≡ word m successorCell (2 * i + 1) % 2 ^ 32
+      → first ≡ edgeWord m i 0 % 2 ^ 32 → second ≡ edgeWord m i 1 % 2 ^ 32
       → _≡_ {A = Block} (record {
         start = start;
         end = end;

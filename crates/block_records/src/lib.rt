@@ -6,6 +6,7 @@ ghost use Prim.Native.Nat.{_<_, _^_, _%_};
 ghost use lib.ListN.{length};
 ghost use Rattle.dataflow.specs.Lists.{tabulate};
 ghost use Rattle.memory.specs.Cells.{word};
+ghost use Rattle.memory.specs.Edges.{edgeWord};
 ghost use Rattle.memory.specs.Scratch.{scratch, Room, Place};
 ghost use Rattle.block_records.specs.Records.{blockIn, listedBlock};
 
@@ -59,8 +60,8 @@ fn block_at(s: &[u64], y: Layout, i: usize) -> Block
     let end = cut(s, y, layout::END, i);
     let reachable = cut(s, y, layout::REACHABLE, i);
     let count = cut(s, y, layout::SUCCESSOR_COUNT, i);
-    let first = cut(s, y, layout::SUCCESSOR, 2 * i);
-    let second = cut(s, y, layout::SUCCESSOR, 2 * i + 1);
+    let first = edge_word(s, y, i, 0);
+    let second = edge_word(s, y, i, 1);
     Block {
         start: start,
         end: end,
@@ -69,6 +70,14 @@ fn block_at(s: &[u64], y: Layout, i: usize) -> Block
         successor_0: first,
         successor_1: second,
     }
+}
+
+// The k-th of its two edge words, cut to 32 bits.
+fn edge_word(s: &[u64], y: Layout, block: usize, k: usize) -> u32
+    requires { ⌜ Room y (length (now s)) × (block < y .blocks) × (k < 2) ⌝ }
+    ensures { λ r. ⌜ r ≡ edgeWord (scratch y (now (s .entry))) block k % 2 ^ 32 ⌝ }
+{
+    (memory::edges::get(s, y, block, k) % 4294967296) as u32
 }
 
 // Word i of cell k, cut to 32 bits.

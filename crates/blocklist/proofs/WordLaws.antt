@@ -2,9 +2,9 @@
 use mathlib.Core.Path.{_≡_, refl, sym, ap, _∙_}
 use mathlib.Core.Bool.{Bool}
 use mathlib.Core.List.{List}
-use Prim.Native.Nat.{ℕ, zero, suc, _+_, _*_, _-_, _/_, _%_, _≤_, _<_}
+use Prim.Native.Nat.{ℕ, zero, suc, _+_, _-_, _/_, _%_, _≤_, _<_}
 use native.Mathlib.Decide.{decLt}
-use native.Mathlib.Nat.{zero-add, add-zero}
+use native.Mathlib.Nat.{zero-add}
 use native.Mathlib.Omega.{arith}
 use borrow.Author.Tests.{le-ltb, lt-ltb}
 use lib.ListN.{length, getD, set, length-set}
@@ -12,26 +12,28 @@ use lib.Seq.{ext-getD, getD-set-same, getD-set-other}
 use Rattle.dataflow.specs.Lists.{pick, tabulate}
 use Rattle.dataflow.proofs.Lists.{length-tabulate, getD-tabulate}
 use Rattle.memory.specs.Cells.{Mem, word}
+use Rattle.memory.specs.Names.{startCell}
+use Rattle.memory.specs.Edges.{edgeWord}
 use Rattle.blocklist.specs.List.{recordIn, listWord, listWords}
 
 module _ (m : Mem) where
   -- ---- a field of block c's record
   module _ (c : ℕ) where
     -- one of the four words a block
-    pub field-first : (k : ℕ) → k < 4 → word m (4 + k) c ≡ getD (recordIn m c) k 0
+    pub field-first : (k : ℕ) → k < 4 → word m (startCell + k) c ≡ getD (recordIn m c) k 0
     field-first zero lt = refl
     field-first (suc zero) lt = refl
     field-first (suc (suc zero)) lt = refl
     field-first (suc (suc (suc zero))) lt = refl
     field-first (suc (suc (suc (suc k)))) lt = absurd (omega arith)
 
-    -- one of the two successors
-    pub field-successor : (k : ℕ) → 4 ≤ k → k < 6 → word m 16 (2 * c + (k - 4)) ≡ getD (recordIn m c) k 0
+    -- one of the two words of its edges
+    pub field-successor : (k : ℕ) → 4 ≤ k → k < 6 → edgeWord m c (k - 4) ≡ getD (recordIn m c) k 0
     field-successor zero ge lt = absurd (omega arith)
     field-successor (suc zero) ge lt = absurd (omega arith)
     field-successor (suc (suc zero)) ge lt = absurd (omega arith)
     field-successor (suc (suc (suc zero))) ge lt = absurd (omega arith)
-    field-successor (suc (suc (suc (suc zero)))) ge lt = ap (word m 16) (add-zero (2 * c))
+    field-successor (suc (suc (suc (suc zero)))) ge lt = refl
     field-successor (suc (suc (suc (suc (suc zero))))) ge lt = refl
     field-successor (suc (suc (suc (suc (suc (suc k)))))) ge lt = absurd (omega arith)
 

@@ -1,17 +1,18 @@
 -- The block list as words: six a record, then zeros.
 use mathlib.Core.List.{List, [], _∷_}
-use Prim.Native.Nat.{ℕ, _+_, _*_, _/_, _%_}
+use Prim.Native.Nat.{ℕ, _/_, _%_}
 use lib.Dec.{ltb}
 use lib.ListN.{getD}
 use Rattle.dataflow.specs.Lists.{pick, tabulate}
 use Rattle.memory.specs.Cells.{Mem, word}
-use Rattle.memory.specs.Names.{startCell, endCell, reachableCell, successorCountCell, successorCell}
+use Rattle.memory.specs.Names.{startCell, endCell, reachableCell, successorCountCell}
+use Rattle.memory.specs.Edges.{edgeWord}
 
 -- the words of scratch that the record of block c is made of: start, end, reachable, successor count, two successors
 abbrev pub recordIn : Mem → ℕ → List ℕ
 recordIn m c =
     word m startCell c ∷ word m endCell c ∷ word m reachableCell c ∷ word m successorCountCell c
-    ∷ word m successorCell (2 * c) ∷ word m successorCell (2 * c + 1) ∷ []
+    ∷ edgeWord m c 0 ∷ edgeWord m c 1 ∷ []
 
 -- word k of the list of so many blocks, and 0 behind them
 unfoldable pub listWord : Mem → ℕ → ℕ → ℕ

@@ -2,7 +2,7 @@
 use memory::layout;
 use memory::layout::Layout;
 ghost use mathlib.Core.Path.{_≡_};
-ghost use Prim.Native.Nat.{_/_, _%_, _*_, _<_};
+ghost use Prim.Native.Nat.{_<_};
 ghost use lib.ListN.{length, getD};
 ghost use Rattle.memory.specs.Scratch.{scratch, Room};
 ghost use Rattle.blocklist.specs.List.{recordIn, listWord, listWords};
@@ -39,5 +39,5 @@ fn field(s: &[u64], y: Layout, block: usize, k: usize) -> u64
     if k < 4 {
         return memory::scratch::get(s, y, layout::START + k, block);
     }
-    memory::scratch::get(s, y, layout::SUCCESSOR, 2 * block + (k - 4))
+    memory::edges::get(s, y, block, k - 4)
 }

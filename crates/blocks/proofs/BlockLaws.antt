@@ -2,18 +2,16 @@
 use mathlib.Core.Logic.{_≢_}
 use mathlib.Core.Path.{_≡_, refl, sym, ap, subst, _∙_}
 use mathlib.Core.Bool.{Bool, false}
-use mathlib.Core.List.{List, map, List·Memᴰ}
-use Prim.Native.Nat.{ℕ, suc, _+_, _*_, _-_, _≤_, _<_}
+use mathlib.Core.List.{List, [], _∷_, map, List·Memᴰ}
+use Prim.Native.Nat.{ℕ, suc, _+_, _-_, _≤_, _<_}
 use native.Mathlib.Decide.{decLt}
 use native.Mathlib.Numerals.{add-one}
 use native.Mathlib.Omega.{arith}
 use lib.Dec.{ltb}
 use lib.ListN.{length, getD, replicate, length-map, length-replicate, List·getD-eq-default}
 use borrow.Author.Tests.{lt-ltb, le-ltb}
-use Rattle.bitset.specs.Sets.{member}
 use Rattle.dataflow.specs.Lists.{pick}
-use Rattle.dataflow.specs.Blocks.{uses, defines}
-use Rattle.dataflow.specs.Code.{Instruction, successors, program, lastOr, indexOf, leaders, body, blockSuccessors}
+use Rattle.dataflow.specs.Code.{Instruction, successors, indexOf, leaders, blockSuccessors}
 use Rattle.dataflow.specs.Results.{blockCount}
 use Rattle.dataflow.specs.Charges.{costAt}
 use Rattle.dataflow.proofs.Leaders.{leaders-count}
@@ -21,9 +19,12 @@ use Rattle.dataflow.proofs.Lists.{map-at, mem-getD}
 use Rattle.memory.specs.Cells.{Mem, cell, word, store, storeCell}
 use Rattle.memory.specs.Names.{offsetCell, blockOfCell, leaderCell, costCell, startCell, endCell, successorCell, successorCountCell}
 use Rattle.memory.specs.Names.{usesRow, definesRow}
+use Rattle.memory.specs.Edges.{edgePlace, edgeWord}
+use Rattle.memory.specs.Frame.{Only, ThisRow, RowsOf}
 use Rattle.memory.specs.Scratch.{scratchWidths, Row}
 use Rattle.memory.specs.declared.layout.Layout.{Layout}
-use Rattle.memory.proofs.CellLaws.{Sized, same-word, sized-store, sized-cell, cell-store-same, cell-store-other, word-cell-other, word-store-other}
+use Rattle.memory.proofs.CellLaws.{Sized, same-word, sized-store, sized-cell, cell-store-same, cell-store-other, word-store-other}
+use Rattle.memory.proofs.FrameLaws.{only-then, only-more, only-cell, only-row}
 use Rattle.memory.proofs.ScratchLaws.{word-put, sized-among, width-row, place-blocks}
 use Rattle.budget.specs.declared.FlowBudget.{FlowBudget}
 use Rattle.budget.specs.declared.Limits.{Limits}
@@ -42,28 +43,20 @@ use Rattle.script.specs.Script.{flowCode, parameterIn}
 use Rattle.script.proofs.ScriptLaws.{code-length, checked}
 use Rattle.leaders.proofs.LeaderLaws.{targets-at}
 use Rattle.blocks.specs.Words.{endOf, spanned, nextOf, putEdges}
-use Rattle.blocks.specs.Rows.{Transfer, transferAll, rowsAt, Transferred}
-use Rattle.blocks.specs.Blocks.{Ready, Block, BuiltOne}
+use Rattle.blocks.specs.Rows.{transferAll, rowsAt, Transferred}
+use Rattle.blocks.specs.Blocks.{Ready, BlockWords, BlockRows, blockCells, BuiltOne}
 use Rattle.blocks.proofs.ReadLaws.{Read, inputs-everywhere, outputs-everywhere, targets-everywhere}
 use Rattle.blocks.proofs.TransferLaws.{offset-is, noted-stands, noted-read}
 use Rattle.blocks.proofs.CodeLaws.{starts-up, Spans, spans-at, few-successors, behind-inside, next-leads}
-use Rattle.blocks.proofs.EdgeLaws.{edges-other, edges-counted, counts-other, edges-lead, edges-unused, edges-before}
-use Rattle.blocks.proofs.MemberLaws.{members-from-none}
-
--- the index of the blocks stays where its three cells stay
-pub ready-kept : {s : List ℕ} {x : Script} {y : Layout} {m m′ : Mem} → Ready s x y m → cell m′ offsetCell ≡ cell m offsetCell
-    → cell m′ blockOfCell ≡ cell m blockOfCell → cell m′ leaderCell ≡ cell m leaderCell → Ready s x y m′
-ready-kept ok e f g = record {
-  sound = ok .sound;
-  fits = ok .fits;
-  index = record {
-    offsets = λ i l. same-word i e ∙ ok .index .offsets i l;
-    starts = λ b l. same-word b g ∙ ok .index .starts b l;
-    numbers = λ t l h. same-word t f ∙ ok .index .numbers t l h;
-  };
-}
+use Rattle.blocks.proofs.EdgeLaws.{edgeCells, Edged, edged}
+use Rattle.blocks.proofs.KeptLaws.{ready-kept, SameWords, block-kept}
+use Rattle.blocks.proofs.MemberLaws.{rows-from-none}
 
 -- ---- after `span` and `empty`
+
+-- the cells of where a block begins and ends
+abbrev spanCells : List ℕ
+spanCells = startCell ∷ endCell ∷ []
 
 pub record Emptied (code : List Instruction) (y : Layout) (b : ℕ) (m m₂ : Mem) : Type 0 where
   pub start : word m₂ startCell b ≡ getD (leaders code) b (length code)
@@ -72,7 +65,7 @@ pub record Emptied (code : List Instruction) (y : Layout) (b : ℕ) (m m₂ : Me
   pub other-ends : (d : ℕ) → d ≢ b → word m₂ endCell d ≡ word m endCell d
   pub uses-none : cell m₂ (usesRow b) ≡ replicate (y .words) 0
   pub defines-none : cell m₂ (definesRow b) ≡ replicate (y .words) 0
-  pub others : (k : ℕ) → k ≢ startCell → k ≢ endCell → k ≢ usesRow b → k ≢ definesRow b → cell m₂ k ≡ cell m k
+  pub only : Only spanCells (RowsOf b) m m₂
 
 module _ {s : List ℕ} {x : Script} {y : Layout} {m : Mem} (ok : Ready s x y m) {b : ℕ} (hb : b < y .blocks) where
   abbrev code : List Instruction
@@ -98,60 +91,59 @@ module _ {s : List ℕ} {x : Script} {y : Layout} {m : Mem} (ok : Ready s x y m)
 
   module _ (z : Sized (scratchWidths y) m) {m₁ m₂ : Mem} (e₁ : m₁ ≡ spanned y b m)
       (e₂ : m₂ ≡ storeCell (storeCell m₁ (usesRow b) (replicate (y .words) 0)) (definesRow b) (replicate (y .words) 0)) where
-    begun : Mem
+    abbrev begun : Mem
     begun = store m startCell b (word m leaderCell b)
 
     begun-sized : Sized (scratchWidths y) begun
-    unfolding begun
     begun-sized = sized-store (scratchWidths y) m startCell b (word m leaderCell b) z
 
     noted : m₁ ≡ store begun endCell b (endOf y m b)
-    unfolding spanned begun
+    unfolding spanned
     noted = e₁
 
     noted-sized : Sized (scratchWidths y) m₁
     noted-sized = subst (λ (w : Mem). Sized (scratchWidths y) w) (sym noted) (sized-store (scratchWidths y) begun endCell b (endOf y m b) begun-sized)
 
-    first : Mem
+    abbrev first : Mem
     first = storeCell m₁ (usesRow b) (replicate (y .words) 0)
 
     first-sized : Sized (scratchWidths y) first
-    unfolding first
     first-sized =
         let r : Row y (usesRow b) = record { low = omega arith; high = omega arith } in
         sized-cell (scratchWidths y) m₁ (usesRow b) _ noted-sized (length-replicate (y .words) 0 ∙ sym (width-row y (usesRow b) r))
 
-    -- rows and words apart
-    cell₂ : (k : ℕ) → k ≢ usesRow b → k ≢ definesRow b → cell m₂ k ≡ cell m₁ k
-    cell₂ k f g =
-        ap (λ (w : Mem). cell w k) e₂ ∙ cell-store-other (storeCell m₁ (usesRow b) _) (definesRow b) _ k g
-        ∙ cell-store-other m₁ (usesRow b) _ k f
+    -- the start noted, then the end, then the two rows
+    start-only : Only (startCell ∷ []) (RowsOf b) m begun
+    start-only = only-cell startCell _ (omega arith) refl
 
-    word₁ : (k i : ℕ) → word m₁ k i ≡ word (store begun endCell b (endOf y m b)) k i
-    word₁ k i = ap (λ (w : Mem). word w k i) noted
+    end-only : Only (endCell ∷ []) (RowsOf b) begun m₁
+    end-only = only-cell endCell _ (omega arith) noted
+
+    rows-only : Only [] (RowsOf b) m₁ m₂
+    rows-only =
+        let uses-only : Only [] (ThisRow (usesRow b)) m₁ first = only-row (usesRow b) _ (omega arith) refl in
+        let defines-only : Only [] (ThisRow (definesRow b)) first m₂ = only-row (definesRow b) _ (omega arith) e₂ in
+        only-then (only-more [] (RowsOf b) refl (λ k h w. (omega arith, omega arith)) uses-only)
+        (only-more [] (RowsOf b) refl (λ k h w. (omega arith, omega arith)) defines-only)
 
     pub emptied : Emptied (flowCode (partsOf s)) y b m m₂
-    unfolding begun first
     emptied = record {
-      start = same-word b (cell₂ startCell (λ w. omega arith) (λ w. omega arith)) ∙ word₁ startCell b
-          ∙ word-cell-other begun endCell _ startCell b (λ w. omega arith)
-          ∙ word-put y z (place-blocks y 4 b (omega arith) (omega arith) hb) (word m leaderCell b)
+      start = same-word b (rows-only .named startCell refl ∙ end-only .named startCell refl)
+          ∙ word-put y z (place-blocks y startCell b (omega arith) (omega arith) hb) (word m leaderCell b)
           ∙ ok .index .starts b some-block;
-      end = same-word b (cell₂ endCell (λ w. omega arith) (λ w. omega arith)) ∙ word₁ endCell b
-          ∙ word-put y begun-sized (place-blocks y 5 b (omega arith) (omega arith) hb) (endOf y m b) ∙ end-is;
-      other-starts = λ d f. same-word d (cell₂ startCell (λ w. omega arith) (λ w. omega arith)) ∙ word₁ startCell d
-          ∙ word-cell-other begun endCell _ startCell d (λ w. omega arith)
+      end = same-word b (rows-only .named endCell refl) ∙ ap (λ (w : Mem). word w endCell b) noted
+          ∙ word-put y begun-sized (place-blocks y endCell b (omega arith) (omega arith) hb) (endOf y m b) ∙ end-is;
+      other-starts = λ d f. same-word d (rows-only .named startCell refl ∙ end-only .named startCell refl)
           ∙ word-store-other m startCell b (word m leaderCell b) startCell d (λ _. f);
-      other-ends = λ d f. same-word d (cell₂ endCell (λ w. omega arith) (λ w. omega arith)) ∙ word₁ endCell d
-          ∙ word-store-other begun endCell b (endOf y m b) endCell d (λ _. f)
-          ∙ word-cell-other m startCell _ endCell d (λ w. omega arith);
+      other-ends = λ d f. same-word d (rows-only .named endCell refl) ∙ ap (λ (w : Mem). word w endCell d) noted
+          ∙ word-store-other begun endCell b (endOf y m b) endCell d (λ _. f) ∙ same-word d (start-only .named endCell refl);
       uses-none = ap (λ (w : Mem). cell w (usesRow b)) e₂
-          ∙ cell-store-other (storeCell m₁ (usesRow b) _) (definesRow b) _ (usesRow b) (λ w. omega arith)
+          ∙ cell-store-other first (definesRow b) _ (usesRow b) (λ w. omega arith)
           ∙ cell-store-same m₁ (usesRow b) _ (sized-among y noted-sized (omega arith));
       defines-none = ap (λ (w : Mem). cell w (definesRow b)) e₂
-          ∙ cell-store-same (storeCell m₁ (usesRow b) _) (definesRow b) _ (sized-among y first-sized (omega arith));
-      others = λ k f g p q. cell₂ k p q ∙ ap (λ (w : Mem). cell w k) noted ∙ cell-store-other begun endCell _ k g
-          ∙ cell-store-other m startCell _ k f;
+          ∙ cell-store-same first (definesRow b) _ (sized-among y first-sized (omega arith));
+      only = only-then (only-more spanCells (RowsOf b) refl (λ k h r. r) start-only)
+          (only-then (only-more spanCells (RowsOf b) refl (λ k h r. r) end-only) (only-more spanCells (RowsOf b) refl (λ k h r. r) rows-only));
     }
 
   -- ---- its instructions
@@ -165,7 +157,7 @@ module _ {s : List ℕ} {x : Script} {y : Layout} {m : Mem} (ok : Ready s x y m)
     end-inside = omega (arith, spans .inside, ok .fits .instructions, code-length s x (ok .sound))
 
     pub offsets-kept : cell m₂ offsetCell ≡ cell m offsetCell
-    offsets-kept = em .others offsetCell (λ w. omega arith) (λ w. omega arith) (λ w. omega arith) (λ w. omega arith)
+    offsets-kept = em .only .named offsetCell refl
 
     pub last-inside : end - 1 < y .instructions
     last-inside = omega (arith, spans .some, end-inside)
@@ -200,23 +192,8 @@ module _ {s : List ℕ} {x : Script} {y : Layout} {m : Mem} (ok : Ready s x y m)
 
     module _ (z₂ : Sized (scratchWidths y) m₂) {nexts : List ℕ} (en : nexts ≡ successors (flowCode (partsOf s)) (end - 1)) {m₃ : Mem}
         (e₃ : m₃ ≡ putEdges b nexts m₂) where
-      cell₃ : (k : ℕ) → k ≢ successorCountCell → k ≢ successorCell → cell m₃ k ≡ cell m₂ k
-      cell₃ k f g = ap (λ (w : Mem). cell w k) e₃ ∙ edges-other b nexts m₂ k f g
-
-      -- the index is still there
-      pub still-ready : Ready s x y m₃
-      still-ready = ready-kept ok
-          (cell₃ offsetCell (λ w. omega arith) (λ w. omega arith) ∙ offsets-kept)
-          (cell₃ blockOfCell (λ w. omega arith) (λ w. omega arith)
-          ∙ em .others blockOfCell (λ w. omega arith) (λ w. omega arith) (λ w. omega arith) (λ w. omega arith))
-          (cell₃ leaderCell (λ w. omega arith) (λ w. omega arith)
-          ∙ em .others leaderCell (λ w. omega arith) (λ w. omega arith) (λ w. omega arith) (λ w. omega arith))
-
-      last-is : lastOr 0 (body code b) ≡ end - 1
-      last-is = spans .last
-
       successors-are : blockSuccessors code b ≡ map (λ (t : ℕ). indexOf t (leaders code)) nexts
-      successors-are = ap (λ (i : ℕ). map (λ (t : ℕ). indexOf t (leaders code)) (successors code i)) last-is
+      successors-are = ap (λ (i : ℕ). map (λ (t : ℕ). indexOf t (leaders code)) (successors code i)) (spans .last)
           ∙ ap (map (λ (t : ℕ). indexOf t (leaders code))) (sym en)
 
       count-is : length (blockSuccessors code b) ≡ length nexts
@@ -225,107 +202,90 @@ module _ {s : List ℕ} {x : Script} {y : Layout} {m : Mem} (ok : Ready s x y m)
       few-edges : (d : ℕ) → length (blockSuccessors code d) ≤ 2
       few-edges = few-successors code (targets-everywhere s x (ok .sound))
 
-      few : length nexts ≤ 2
-      few = omega (arith, count-is, few-edges b)
+      put : Edged b nexts m₂ m₃
+      put = edged y b nexts z₂ hb (omega (arith, count-is, few-edges b)) e₃
+
+      -- the index is still there
+      pub still-ready : Ready s x y m₃
+      still-ready = ready-kept ok (put .only .named offsetCell refl ∙ em .only .named offsetCell refl)
+          (put .only .named blockOfCell refl ∙ em .only .named blockOfCell refl)
+          (put .only .named leaderCell refl ∙ em .only .named leaderCell refl)
 
       -- each edge leads to the number of its block
       edge-is : (k : ℕ) → k < length nexts → word m₂ blockOfCell (getD nexts k 0) ≡ getD (blockSuccessors code b) k 0
       edge-is k l =
           let g = next-leads code (parameterIn (partsOf s)) (x .slots) (checked s x (ok .sound)) b start end some-block spans (getD nexts k 0)
           (subst (λ (r : List ℕ). List·Memᴰ (getD nexts k 0) r) en (mem-getD nexts k 0 l)) in
-          same-word (getD nexts k 0) (em .others blockOfCell (λ w. omega arith) (λ w. omega arith) (λ w. omega arith) (λ w. omega arith))
+          same-word (getD nexts k 0) (em .only .named blockOfCell refl)
           ∙ ok .index .numbers (getD nexts k 0) (omega (arith, g .1, code-length s x (ok .sound))) (g .0)
           ∙ sym (same-word k successors-are ∙ map-at (λ (t : ℕ). indexOf t (leaders code)) nexts k 0 0 l)
 
       module _ {l : Limits} {budget : FlowBudget} {m₄ : Mem} {r : Charged} (t : Transferred (flowCode (partsOf s)) l budget b start end m₃ m₄ r) where
-        cell₄ : (k : ℕ) → k ≢ costCell → k ≢ usesRow b → k ≢ definesRow b → k ≢ successorCountCell → k ≢ successorCell → cell m₄ k ≡ cell m₂ k
-        cell₄ k f g h p q = t .others k f g h ∙ cell₃ k p q
+        -- behind `empty`, and all of it
+        late : Only (costCell ∷ edgeCells) (RowsOf b) m₂ m₄
+        late = only-then (only-more (costCell ∷ edgeCells) (RowsOf b) refl (λ k h r. absurd r) (put .only))
+            (only-more (costCell ∷ edgeCells) (RowsOf b) refl (λ k h r. r) (t .only))
 
+        whole : Only blockCells (RowsOf b) m m₄
+        whole = only-then (only-more blockCells (RowsOf b) refl (λ k h r. r) (em .only)) (only-more blockCells (RowsOf b) refl (λ k h r. r) late)
+
+        -- the words that `transfer` leaves
         start₄ : (d : ℕ) → word m₄ startCell d ≡ word m₂ startCell d
-        start₄ d = same-word d (cell₄ startCell (λ w. omega arith) (λ w. omega arith) (λ w. omega arith) (λ w. omega arith) (λ w. omega arith))
+        start₄ d = same-word d (late .named startCell refl)
 
         end₄ : (d : ℕ) → word m₄ endCell d ≡ word m₂ endCell d
-        end₄ d = same-word d (cell₄ endCell (λ w. omega arith) (λ w. omega arith) (λ w. omega arith) (λ w. omega arith) (λ w. omega arith))
+        end₄ d = same-word d (late .named endCell refl)
 
-        count₄ : (d : ℕ) → word m₄ successorCountCell d ≡ word (putEdges b nexts m₂) successorCountCell d
-        count₄ d = same-word d (t .others successorCountCell (λ w. omega arith) (λ w. omega arith) (λ w. omega arith))
-            ∙ ap (λ (w : Mem). word w successorCountCell d) e₃
+        count₄ : (d : ℕ) → word m₄ successorCountCell d ≡ word m₃ successorCountCell d
+        count₄ d = same-word d (t .only .named successorCountCell refl)
 
-        edge₄ : (j : ℕ) → word m₄ successorCell j ≡ word (putEdges b nexts m₂) successorCell j
-        edge₄ j = same-word j (t .others successorCell (λ w. omega arith) (λ w. omega arith) (λ w. omega arith))
-            ∙ ap (λ (w : Mem). word w successorCell j) e₃
+        edge₄ : (d k : ℕ) → edgeWord m₄ d k ≡ edgeWord m₃ d k
+        edge₄ d k = same-word (edgePlace d k) (t .only .named successorCell refl)
 
-        rows-from : (left : FlowBudget) → r ≡ Ok left → rowsAt m₄ b ≡ transferAll code (body code b) (rowsAt m₃ b)
-        rows-from left e = t .rows left e ∙ ap (λ (ns : List ℕ). transferAll code ns (rowsAt m₃ b)) (sym (spans .is))
+        -- this block
+        module _ {left : FlowBudget} (e : r ≡ Ok left) where
+          this-words : BlockWords (flowCode (partsOf s)) m₄ b
+          this-words = record {
+            start = start₄ b ∙ em .start;
+            end = end₄ b ∙ em .end;
+            counted = count₄ b ∙ put .counted ∙ sym count-is;
+            edges = λ k h. edge₄ b k ∙ put .edges k (omega (arith, count-is)) ∙ edge-is k (omega (arith, count-is));
+            unused = λ k h g. edge₄ b k ∙ put .unused k h (omega (arith, count-is));
+            costs = λ i lo hi. t .costs left e i (omega (arith, start₄ b)) (omega (arith, end₄ b));
+          }
 
-        members : (parameter : ℕ → Bool) (left : FlowBudget) → r ≡ Ok left → (i : ℕ)
-            → (member (cell m₄ (usesRow b)) i ≡ uses (program code parameter) i false false (body code b))
-            × (member (cell m₄ (definesRow b)) i ≡ defines (program code parameter) i false (body code b))
-        members parameter left e i =
-            let w = members-from-none code parameter (y .words) (inputs-everywhere s x (ok .sound) (y .words) (ok .fits .slots))
-            (outputs-everywhere s x (ok .sound) (y .words) (ok .fits .slots)) (body code b) (rowsAt m₃ b) i
-            (cell₃ (usesRow b) (λ w. omega arith) (λ w. omega arith) ∙ em .uses-none)
-            (cell₃ (definesRow b) (λ w. omega arith) (λ w. omega arith) ∙ em .defines-none) in
-            let g = rows-from left e in (
-              ap (λ (v : Transfer). member (v .uses) i) g ∙ w .0,
-              ap (λ (v : Transfer). member (v .defines) i) g ∙ w .1,
-            )
+          this-rows : (parameter : ℕ → Bool) → BlockRows (flowCode (partsOf s)) parameter m₄ b
+          this-rows parameter = rows-from-none code parameter (y .words) (inputs-everywhere s x (ok .sound) (y .words) (ok .fits .slots))
+              (outputs-everywhere s x (ok .sound) (y .words) (ok .fits .slots)) m₃
+              (put .only .others (usesRow b) (omega arith) (λ w. w) ∙ em .uses-none)
+              (put .only .others (definesRow b) (omega arith) (λ w. w) ∙ em .defines-none)
+              (t .rows left e ∙ ap (λ (ns : List ℕ). transferAll code ns (rowsAt m₃ b)) (sym (spans .is)))
 
-        this-block : (left : FlowBudget) → r ≡ Ok left → (parameter : ℕ → Bool) → Block (flowCode (partsOf s)) parameter m₄ b
-        this-block left e parameter = record {
-          start = start₄ b ∙ em .start;
-          end = end₄ b ∙ em .end;
-          counted = count₄ b ∙ edges-counted y b nexts m₂ z₂ hb few ∙ sym count-is;
-          edges = λ k h. edge₄ (2 * b + k) ∙ edges-lead y b nexts m₂ z₂ hb few k (omega (arith, count-is)) ∙ edge-is k (omega (arith, count-is));
-          unused = λ k h g. edge₄ (2 * b + k) ∙ edges-unused y b nexts m₂ z₂ hb few k h (omega (arith, count-is));
-          uses-are = λ i. members parameter left e i .0;
-          defines-are = λ i. members parameter left e i .1;
-          costs = λ i lo hi. t .costs left e i (omega (arith, start₄ b)) (omega (arith, end₄ b));
-        }
+        -- an earlier one: its instructions end where this block begins, or before
+        module _ (d : ℕ) (h : d < b) where
+          ends-before : getD (leaders code) (suc d) (length code) ≤ getD (leaders code) b (length code)
+          ends-before =
+              let e : suc d + (b - suc d) ≡ b = omega arith in
+              rw e at (starts-up code (suc d) (b - suc d) (omega (arith, some-block)))
 
-        earlier-block : (parameter : ℕ → Bool) (d : ℕ) → d < b → Block (flowCode (partsOf s)) parameter m d
-            → Block (flowCode (partsOf s)) parameter m₄ d
-        earlier-block parameter d h g = record {
-          start = start-same ∙ g .start;
-          end = end-same ∙ g .end;
-          counted = count₄ d ∙ counts-other y b nexts m₂ z₂ hb few d (λ w. omega arith)
-              ∙ same-word d (em .others successorCountCell (λ w. omega arith) (λ w. omega arith) (λ w. omega arith) (λ w. omega arith)) ∙ g .counted;
-          edges = λ k l. edge-same k (omega (arith, few-edges d)) ∙ g .edges k l;
-          unused = λ k l n. edge-same k l ∙ g .unused k l n;
-          uses-are = λ i. ap (λ (ws : List ℕ). member ws i) (row-same (usesRow d) (omega arith) (λ w. omega arith) (λ w. omega arith))
-              ∙ g .uses-are i;
-          defines-are = λ i. ap (λ (ws : List ℕ). member ws i) (row-same (definesRow d) (omega arith) (λ w. omega arith) (λ w. omega arith))
-              ∙ g .defines-are i;
-          costs = λ i lo hi. t .other-costs i (omega (arith, end-same, g .end, ends-before, spans .begins, hi))
-              ∙ same-word i (cell₃ costCell (λ w. omega arith) (λ w. omega arith)
-              ∙ em .others costCell (λ w. omega arith) (λ w. omega arith) (λ w. omega arith) (λ w. omega arith))
-              ∙ g .costs i (omega (arith, start-same)) (omega (arith, end-same));
-        }
-          where
-            start-same : word m₄ startCell d ≡ word m startCell d
-            start-same = start₄ d ∙ em .other-starts d (λ w. omega arith)
+          edge-same : (k : ℕ) → k < 2 → edgeWord m₄ d k ≡ edgeWord m d k
+          edge-same k l = edge₄ d k ∙ put .other-edges d k (λ w. omega arith) l ∙ same-word (edgePlace d k) (em .only .named successorCell refl)
 
-            end-same : word m₄ endCell d ≡ word m endCell d
-            end-same = end₄ d ∙ em .other-ends d (λ w. omega arith)
-
-            edge-same : (k : ℕ) → k < 2 → word m₄ successorCell (2 * d + k) ≡ word m successorCell (2 * d + k)
-            edge-same k l = edge₄ (2 * d + k) ∙ edges-before y b nexts m₂ z₂ hb few (2 * d + k) (omega arith)
-                ∙ same-word (2 * d + k) (em .others successorCell (λ w. omega arith) (λ w. omega arith) (λ w. omega arith) (λ w. omega arith))
-
-            row-same : (k : ℕ) → 18 ≤ k → k ≢ usesRow b → k ≢ definesRow b → cell m₄ k ≡ cell m k
-            row-same k lo f g = cell₄ k (λ w. omega arith) f g (λ w. omega arith) (λ w. omega arith)
-                ∙ em .others k (λ w. omega arith) (λ w. omega arith) f g
-
-            ends-before : getD (leaders code) (suc d) (length code) ≤ getD (leaders code) b (length code)
-            ends-before =
-                let e : suc d + (b - suc d) ≡ b = omega arith in
-                subst (λ (c : ℕ). getD (leaders code) (suc d) (length code) ≤ getD (leaders code) c (length code)) e
-                (starts-up code (suc d) (b - suc d) (omega (arith, some-block)))
+          earlier-words : BlockWords (flowCode (partsOf s)) m d → SameWords m m₄ d
+          earlier-words g = record {
+            start = start₄ d ∙ em .other-starts d (λ w. omega arith);
+            end = end₄ d ∙ em .other-ends d (λ w. omega arith);
+            counted = count₄ d ∙ put .other-counts d (λ w. omega arith) ∙ same-word d (em .only .named successorCountCell refl);
+            edges = λ k l. edge-same k (omega (arith, few-edges d));
+            unused = λ k l n. edge-same k l;
+            costs = λ i lo hi. t .other-costs i (omega (arith, ends-before, spans .begins))
+                ∙ same-word i (put .only .named costCell refl ∙ em .only .named costCell refl);
+          }
 
         pub built-one : BuiltOne (flowCode (partsOf s)) l budget b m m₄ r
         built-one = record {
           charges = t .charges ∙ ap (λ (ns : List ℕ). charged l budget (map (costAt code) ns)) (sym (spans .is));
-          block = this-block;
-          earlier = earlier-block;
-          others = λ k a c d e f g h. cell₄ k a g h e f ∙ em .others k c d g h;
+          block = λ left e parameter. record { words = this-words e; rows = this-rows e parameter };
+          earlier = λ parameter d h g. block-kept (earlier-words d h (g .words)) (λ k p. whole .others k (omega arith) (λ w. omega arith)) g;
+          only = whole;
         }

@@ -1,9 +1,9 @@
 -- The blocks one by one: their charges, their words and rows, and the sets as they begin. Assumes nothing.
-use mathlib.Core.Logic.{_≢_, _⊎_, inl, inr}
+use mathlib.Core.Logic.{_≢_}
 use mathlib.Core.Path.{_≡_, refl, sym, ap, subst, _∙_}
 use mathlib.Core.Bool.{Bool}
 use mathlib.Core.List.{List, [], _∷_, _++_, map, map-append, append-nil, append-assoc}
-use Prim.Native.Nat.{ℕ, suc, _+_, _*_, _-_, _≤_, _<_}
+use Prim.Native.Nat.{ℕ, suc, _+_, _-_, _<_}
 use native.Mathlib.Decide.{ℕ-discrete}
 use native.Mathlib.Omega.{arith}
 use lib.ListN.{length, replicate, length-set}
@@ -14,9 +14,11 @@ use Rattle.dataflow.specs.Code.{Instruction, body, blockGraph}
 use Rattle.dataflow.specs.Results.{blockCount}
 use Rattle.dataflow.specs.Charges.{costAt}
 use Rattle.memory.specs.Cells.{Mem, cell, storeCell}
-use Rattle.memory.specs.Names.{offsetCell, blockOfCell, leaderCell, usesRow, definesRow, initializedRow, liveRow}
+use Rattle.memory.specs.Names.{offsetCell, blockOfCell, leaderCell, initializedRow, liveRow}
+use Rattle.memory.specs.Frame.{Only, RowsBefore}
 use Rattle.memory.specs.declared.layout.Layout.{Layout}
 use Rattle.memory.proofs.CellLaws.{cell-store-same, cell-store-other}
+use Rattle.memory.proofs.FrameLaws.{only-none, only-then, only-more}
 use Rattle.budget.specs.declared.FlowBudget.{FlowBudget}
 use Rattle.budget.specs.declared.Limits.{Limits}
 use Rattle.budget.specs.declared.Charged.{Charged}
@@ -24,9 +26,9 @@ use Rattle.budget.specs.declared.Charged.the-variants.{Ok, Over}
 use Rattle.budget.specs.Budget.{charged}
 use Rattle.budget.proofs.BudgetLaws.{charged-none, met-then, over-then}
 use Rattle.sheet.specs.declared.script.Script.{Script}
-use Rattle.blocks.specs.Blocks.{Ready, Block, Fresh, Untouched, BuiltOne, Built}
+use Rattle.blocks.specs.Blocks.{Ready, Block, Fresh, blockCells, BuiltOne, Built}
 use Rattle.blocks.proofs.TransferLaws.{range-more, range-at}
-use Rattle.blocks.proofs.BlockLaws.{ready-kept}
+use Rattle.blocks.proofs.KeptLaws.{ready-kept}
 
 -- ---- the instructions of blocks, in two parts
 
@@ -72,27 +74,24 @@ pub record Building (code : List Instruction) (y : Layout) (l : Limits) (budget 
   pub charges : charged l budget (chargesOf code (range 0 index)) ≡ Ok left
   pub blocks : (parameter : ℕ → Bool) (c : ℕ) → c < index → Block code parameter m′ c
   pub fresh : (c : ℕ) → c < index → Fresh y t′ c
-  pub others : (k : ℕ) → Untouched y k → cell m′ k ≡ cell m k
+  pub only : Only blockCells (RowsBefore (y .blocks)) m m′
 
 -- before the first block
 pub building-none : {code : List Instruction} {y : Layout} {l : Limits} {budget : FlowBudget} {m t : Mem} → Building code y l budget budget 0 m m t
-building-none {l = l} {budget = budget} = record {
+building-none {l = l} {budget = budget} {m = m} = record {
   charges = charged-none l budget;
   blocks = λ parameter c h. absurd (omega arith);
   fresh = λ c h. absurd (omega arith);
-  others = λ k u. refl;
+  only = only-none m;
 }
 
 -- the index of the blocks stays
 pub building-ready : {s : List ℕ} {x : Script} {code : List Instruction} {y : Layout} {l : Limits} {budget left : FlowBudget} {index : ℕ}
     {m m′ t′ : Mem} → Ready s x y m → Building code y l budget left index m m′ t′ → Ready s x y m′
-building-ready ok g = ready-kept ok
-    (g .others offsetCell ((λ e. omega arith), (λ e. omega arith), (λ e. omega arith), (λ e. omega arith), (λ e. omega arith), inl (omega arith)))
-    (g .others blockOfCell ((λ e. omega arith), (λ e. omega arith), (λ e. omega arith), (λ e. omega arith), (λ e. omega arith), inl (omega arith)))
-    (g .others leaderCell ((λ e. omega arith), (λ e. omega arith), (λ e. omega arith), (λ e. omega arith), (λ e. omega arith), inl (omega arith)))
+building-ready ok g = ready-kept ok (g .only .named offsetCell refl) (g .only .named blockOfCell refl) (g .only .named leaderCell refl)
 
 -- the sets of one block begun: those of others stay
-fresh-more : (y : Layout) (index : ℕ) (t′ t″ : Mem) → 2 * index + 1 < length t′
+fresh-more : (y : Layout) (index : ℕ) (t′ t″ : Mem) → liveRow index < length t′
     → t″ ≡ storeCell (storeCell t′ (initializedRow index) (replicate (y .words) ones)) (liveRow index) (replicate (y .words) 0)
     → ((c : ℕ) → c < index → Fresh y t′ c) → (c : ℕ) → c < index + 1 → Fresh y t″ c
 fresh-more y index t′ t″ h e g c l = go (ℕ-discrete c index)
@@ -128,18 +127,12 @@ module _ {code : List Instruction} {y : Layout} {l : Limits} {budget left : Flow
     charges = sym (g .charges) ∙ ap (λ (n : ℕ). charged l budget (chargesOf code (range 0 n))) (e ∙ f);
     blocks = λ x q parameter c h. g .blocks parameter c (omega arith);
     fresh = λ x q c h. g .fresh c (omega arith);
-    others = g .others;
+    only = g .only;
   }
 
   module _ (h : index < y .blocks) {m″ : Mem} {r : Charged} (o : BuiltOne code l left index m′ m″ r) where
-    others-more : (k : ℕ) → Untouched y k → cell m″ k ≡ cell m k
-    others-more k u =
-        o .others k (u .0) (u .1) (u .2) (u .3) (u .4) (row (usesRow index) (omega arith) (omega arith) (u .5))
-        (row (definesRow index) (omega arith) (omega arith) (u .5)) ∙ g .others k u
-      where
-        row : (j : ℕ) → 18 ≤ j → j < 18 + 2 * y .blocks → ((k < 18) ⊎ (18 + 2 * y .blocks ≤ k)) → k ≢ j
-        row j lo hi (inl q) e = omega arith
-        row j lo hi (inr q) e = omega arith
+    only-one-more : Only blockCells (RowsBefore (y .blocks)) m m″
+    only-one-more = only-then (g .only) (only-more blockCells (RowsBefore (y .blocks)) refl (λ k lo w. omega arith) (o .only))
 
     -- a charge of this block crosses the limit
     pub built-over : {t t″ : Mem} {x : FlowBudget} → y .blocks ≡ blockCount code → r ≡ Over x → Built code y l budget m m″ t t″ r
@@ -148,18 +141,18 @@ module _ {code : List Instruction} {y : Layout} {l : Limits} {budget left : Flow
           ∙ met-then l budget _ _ (g .charges) ∙ over-then l left (map (costAt code) (body code index)) _ (sym (o .charges) ∙ f));
       blocks = λ z q. let w : _≡_ {A = ℕ} 0 1 = cc in absurd (omega arith);
       fresh = λ z q. let w : _≡_ {A = ℕ} 0 1 = cc in absurd (omega arith);
-      others = others-more;
+      only = only-one-more;
     }
 
     -- one block more
-    pub building-more : {t″ : Mem} {left′ : FlowBudget} → r ≡ Ok left′ → 2 * index + 1 < length t′
+    pub building-more : {t″ : Mem} {left′ : FlowBudget} → r ≡ Ok left′ → liveRow index < length t′
         → t″ ≡ storeCell (storeCell t′ (initializedRow index) (replicate (y .words) ones)) (liveRow index) (replicate (y .words) 0)
         → Building code y l budget left′ (index + 1) m m″ t″
     building-more {t″} {left′} f n e = record {
       charges = ap (charged l budget) (charges-more code index) ∙ met-then l budget _ _ (g .charges) ∙ sym (o .charges) ∙ f;
       blocks = λ parameter c b. block-at parameter c b (ℕ-discrete c index);
       fresh = fresh-more y index t′ t″ n e (g .fresh);
-      others = others-more;
+      only = only-one-more;
     }
       where
         block-at : (parameter : ℕ → Bool) (c : ℕ) → c < index + 1 → Dec (c ≡ index) → Block code parameter m″ c

@@ -1,149 +1,158 @@
 -- The words of a block's edges after they are put: the count, where each leads, and what stays. Assumes nothing.
 use mathlib.Core.Logic.{_≢_}
-use mathlib.Core.Path.{_≡_, refl, _∙_}
+use mathlib.Core.Path.{_≡_, refl, sym, subst, _∙_}
 use mathlib.Core.List.{List, [], _∷_}
-use Prim.Native.Nat.{ℕ, zero, suc, _+_, _*_, _≤_, _<_}
+use Prim.Native.Nat.{ℕ, zero, suc, _+_, _≤_, _<_}
 use native.Mathlib.Omega.{arith}
 use lib.ListN.{length, getD}
-use Rattle.memory.specs.Cells.{Mem, cell, word, store}
+use Rattle.memory.specs.Cells.{Mem, word, store}
 use Rattle.memory.specs.Names.{blockOfCell, successorCell, successorCountCell}
+use Rattle.memory.specs.Edges.{edgePlace, edgeWord, storeEdge}
+use Rattle.memory.specs.Frame.{Only, NoRow}
 use Rattle.memory.specs.Scratch.{scratchWidths}
 use Rattle.memory.specs.declared.layout.Layout.{Layout}
-use Rattle.memory.proofs.CellLaws.{Sized, same-word, sized-store, cell-store-other, word-cell-other, word-store-other}
+use Rattle.memory.proofs.CellLaws.{Sized, same-word, sized-store, word-store-other}
+use Rattle.memory.proofs.FrameLaws.{only-none, only-then, only-more, only-cell}
 use Rattle.memory.proofs.ScratchLaws.{word-put, place-blocks, place-successors}
 use Rattle.blocks.specs.Words.{countedEdges, linkEdges, putEdges}
 
--- ---- edges from e on
+-- ---- one edge
 
--- other cells stay
-link-other : (e : ℕ) (ts : List ℕ) (m : Mem) (k : ℕ) → k ≢ successorCell → cell (linkEdges e ts m) k ≡ cell m k
-unfolding linkEdges
-link-other e [] m k h = refl
-link-other e (t ∷ ts) m k h =
-    link-other (suc e) ts (store m successorCell e (word m blockOfCell t)) k h ∙ cell-store-other m successorCell _ k h
+edge-only : (m : Mem) (b k v : ℕ) → Only (successorCell ∷ []) NoRow m (storeEdge m b k v)
+edge-only m b k v = only-cell successorCell _ (omega arith) refl
 
 -- each other edge stays
-link-apart : (e : ℕ) (ts : List ℕ) (m : Mem) (j : ℕ) → ((i : ℕ) → e ≤ i → i < e + length ts → j ≢ i)
-    → word (linkEdges e ts m) successorCell j ≡ word m successorCell j
+edge-other : (m : Mem) (b k v d j : ℕ) → edgePlace d j ≢ edgePlace b k → edgeWord (storeEdge m b k v) d j ≡ edgeWord m d j
+edge-other m b k v d j ne = word-store-other m successorCell (edgePlace b k) v successorCell (edgePlace d j) (λ _. ne)
+
+module _ (y : Layout) (b k v : ℕ) {m : Mem} (z : Sized (scratchWidths y) m) where
+  edge-sized : Sized (scratchWidths y) (storeEdge m b k v)
+  edge-sized = sized-store (scratchWidths y) m successorCell (edgePlace b k) v z
+
+  edge-put : b < y .blocks → k < 2 → edgeWord (storeEdge m b k v) b k ≡ v
+  edge-put h l = word-put y z (place-successors y successorCell (edgePlace b k) (omega arith) (omega arith)) v
+
+-- ---- edges from the k-th on
+
+link-only : (b k : ℕ) (ts : List ℕ) (m : Mem) → Only (successorCell ∷ []) NoRow m (linkEdges b k ts m)
 unfolding linkEdges
-link-apart e [] m j h = refl
-link-apart e (t ∷ ts) m j h =
-    link-apart (suc e) ts (store m successorCell e (word m blockOfCell t)) j (λ i a b. h i (omega arith) (omega arith))
-    ∙ word-store-other m successorCell e (word m blockOfCell t) successorCell j (λ _. h e (omega arith) (omega arith))
+link-only b k [] m = only-none m
+link-only b k (t ∷ ts) m = only-then (edge-only m b k (word m blockOfCell t)) (link-only b (suc k) ts (storeEdge m b k (word m blockOfCell t)))
 
-module _ (y : Layout) where
-  link-sized : (e : ℕ) (ts : List ℕ) (m : Mem) → Sized (scratchWidths y) m → Sized (scratchWidths y) (linkEdges e ts m)
-  unfolding linkEdges
-  link-sized e [] m z = z
-  link-sized e (t ∷ ts) m z =
-      link-sized (suc e) ts (store m successorCell e (word m blockOfCell t)) (sized-store (scratchWidths y) m successorCell e _ z)
+-- each other edge stays
+link-apart : (b k : ℕ) (ts : List ℕ) (m : Mem) (d j : ℕ) → ((i : ℕ) → k ≤ i → i < k + length ts → edgePlace d j ≢ edgePlace b i)
+    → edgeWord (linkEdges b k ts m) d j ≡ edgeWord m d j
+unfolding linkEdges
+link-apart b k [] m d j h = refl
+link-apart b k (t ∷ ts) m d j h =
+    link-apart b (suc k) ts (storeEdge m b k (word m blockOfCell t)) d j (λ i lo hi. h i (omega arith) (omega arith))
+    ∙ edge-other m b k (word m blockOfCell t) d j (h k (omega arith) (omega arith))
 
-  -- where each of them leads
-  link-at : (e : ℕ) (ts : List ℕ) (m : Mem) (k : ℕ) → Sized (scratchWidths y) m → e + length ts ≤ 2 * y .blocks → k < length ts
-      → word (linkEdges e ts m) successorCell (e + k) ≡ word m blockOfCell (getD ts k 0)
-  unfolding linkEdges
-  link-at e [] m k z h l = absurd (omega arith)
-  link-at e (t ∷ ts) m zero z h l =
-      let q : e + 0 ≡ e = omega arith in
-      rw q (link-apart (suc e) ts (store m successorCell e (word m blockOfCell t)) e (λ i a b w. omega arith)
-      ∙ word-put y z (place-successors y 16 e (omega arith) (omega arith)) (word m blockOfCell t))
-  link-at e (t ∷ ts) m (suc k) z h l =
-      let q : e + suc k ≡ suc e + k = omega arith in
-      rw q (link-at (suc e) ts (store m successorCell e (word m blockOfCell t)) k
-      (sized-store (scratchWidths y) m successorCell e (word m blockOfCell t) z) (omega arith) (omega arith)
-      ∙ word-cell-other m successorCell _ blockOfCell (getD ts k 0) (λ w. omega arith))
+-- where each of them leads
+link-at : (y : Layout) (b k : ℕ) (ts : List ℕ) (m : Mem) (j : ℕ) → Sized (scratchWidths y) m → b < y .blocks → k + length ts ≤ 2 → j < length ts
+    → edgeWord (linkEdges b k ts m) b (k + j) ≡ word m blockOfCell (getD ts j 0)
+unfolding linkEdges
+link-at y b k [] m j z h few l = absurd (omega arith)
+link-at y b k (t ∷ ts) m zero z h few l =
+    let q : k + 0 ≡ k = omega arith in
+    rw q (link-apart b (suc k) ts (storeEdge m b k (word m blockOfCell t)) b k (λ i lo hi w. omega arith)
+    ∙ edge-put y b k (word m blockOfCell t) z h (omega arith))
+link-at y b k (t ∷ ts) m (suc j) z h few l =
+    let q : k + suc j ≡ suc k + j = omega arith in
+    rw q (link-at y b (suc k) ts (storeEdge m b k (word m blockOfCell t)) j (edge-sized y b k (word m blockOfCell t) z) h (omega arith) (omega arith)
+    ∙ same-word (getD ts j 0) (edge-only m b k (word m blockOfCell t) .named blockOfCell refl))
 
 -- ---- the count, and both edges cleared
 
-counted-other : (b n : ℕ) (m : Mem) (k : ℕ) → k ≢ successorCountCell → k ≢ successorCell → cell (countedEdges b n m) k ≡ cell m k
-unfolding countedEdges
-counted-other b n m k f g =
-    let m₁ : Mem = store m successorCountCell b n in
-    cell-store-other (store m₁ successorCell (2 * b) 0) successorCell _ k g
-    ∙ cell-store-other m₁ successorCell _ k g ∙ cell-store-other m successorCountCell _ k f
+-- the cells of the edges of a block
+abbrev pub edgeCells : List ℕ
+edgeCells = successorCountCell ∷ successorCell ∷ []
 
-module _ (y : Layout) (b n : ℕ) (m : Mem) (z : Sized (scratchWidths y) m) (h : b < y .blocks) where
+module _ (b n : ℕ) (m : Mem) where
   -- the count alone, then the first edge
-  m₁ : Mem
+  abbrev m₁ : Mem
   m₁ = store m successorCountCell b n
 
-  m₂ : Mem
-  m₂ = store (store m successorCountCell b n) successorCell (2 * b) 0
+  abbrev m₂ : Mem
+  m₂ = storeEdge m₁ b 0 0
 
-  z₁ : Sized (scratchWidths y) m₁
-  unfolding m₁
-  z₁ = sized-store (scratchWidths y) m successorCountCell b n z
+  count-only : Only (successorCountCell ∷ []) NoRow m m₁
+  count-only = only-cell successorCountCell _ (omega arith) refl
 
-  z₂ : Sized (scratchWidths y) m₂
-  unfolding m₁ m₂
-  z₂ = sized-store (scratchWidths y) m₁ successorCell (2 * b) 0 z₁
+  clear-only : Only (successorCell ∷ []) NoRow m₁ (countedEdges b n m)
+  unfolding countedEdges
+  clear-only = only-then (edge-only m₁ b 0 0) (edge-only m₂ b 1 0)
 
-  counted-sized : Sized (scratchWidths y) (countedEdges b n m)
-  unfolding countedEdges m₂
-  counted-sized = sized-store (scratchWidths y) m₂ successorCell (2 * b + 1) 0 z₂
-
-  -- the counts
-  counted-here : word (countedEdges b n m) successorCountCell b ≡ n
-  unfolding countedEdges m₁ m₂
-  counted-here =
-      word-cell-other m₂ successorCell _ successorCountCell b (λ w. omega arith)
-      ∙ word-cell-other m₁ successorCell _ successorCountCell b (λ w. omega arith)
-      ∙ word-put y z (place-blocks y 7 b (omega arith) (omega arith) h) n
+  counted-only : Only edgeCells NoRow m (countedEdges b n m)
+  counted-only =
+      only-then (only-more edgeCells NoRow refl (λ k h r. r) count-only) (only-more edgeCells NoRow refl (λ k h r. r) clear-only)
 
   counted-there : (d : ℕ) → d ≢ b → word (countedEdges b n m) successorCountCell d ≡ word m successorCountCell d
-  unfolding countedEdges m₁ m₂
   counted-there d f =
-      word-cell-other m₂ successorCell _ successorCountCell d (λ w. omega arith)
-      ∙ word-cell-other m₁ successorCell _ successorCountCell d (λ w. omega arith)
-      ∙ word-store-other m successorCountCell b n successorCountCell d (λ _. f)
+      same-word d (clear-only .named successorCountCell refl) ∙ word-store-other m successorCountCell b n successorCountCell d (λ _. f)
 
-  -- the edges
-  cleared-edge : (k : ℕ) → k < 2 → word (countedEdges b n m) successorCell (2 * b + k) ≡ 0
-  unfolding countedEdges m₁ m₂
-  cleared-edge zero l =
-      let q : 2 * b + 0 ≡ 2 * b = omega arith in
-      rw q (word-store-other m₂ successorCell (2 * b + 1) 0 successorCell (2 * b) (λ _ w. omega arith)
-      ∙ word-put y z₁ (place-successors y 16 (2 * b) (omega arith) (omega arith)) 0)
-  cleared-edge (suc zero) l = word-put y z₂ (place-successors y 16 (2 * b + 1) (omega arith) (omega arith)) 0
-  cleared-edge (suc (suc k)) l = absurd (omega arith)
+  -- an edge of another block
+  other-edge : (d k : ℕ) → d ≢ b → k < 2 → edgeWord (countedEdges b n m) d k ≡ edgeWord m d k
+  unfolding countedEdges
+  other-edge d k f l =
+      edge-other m₂ b 1 0 d k (λ w. omega arith) ∙ edge-other m₁ b 0 0 d k (λ w. omega arith)
+      ∙ same-word (edgePlace d k) (count-only .named successorCell refl)
 
-  other-edge : (j : ℕ) → j < 2 * b → word (countedEdges b n m) successorCell j ≡ word m successorCell j
-  unfolding countedEdges m₁ m₂
-  other-edge j l =
-      word-store-other m₂ successorCell (2 * b + 1) 0 successorCell j (λ _ w. omega arith)
-      ∙ word-store-other m₁ successorCell (2 * b) 0 successorCell j (λ _ w. omega arith)
-      ∙ word-cell-other m successorCountCell _ successorCell j (λ w. omega arith)
+  module _ (y : Layout) (z : Sized (scratchWidths y) m) (h : b < y .blocks) where
+    z₁ : Sized (scratchWidths y) m₁
+    z₁ = sized-store (scratchWidths y) m successorCountCell b n z
+
+    z₂ : Sized (scratchWidths y) m₂
+    z₂ = edge-sized y b 0 0 z₁
+
+    counted-sized : Sized (scratchWidths y) (countedEdges b n m)
+    unfolding countedEdges
+    counted-sized = edge-sized y b 1 0 z₂
+
+    counted-here : word (countedEdges b n m) successorCountCell b ≡ n
+    counted-here =
+        same-word b (clear-only .named successorCountCell refl)
+        ∙ word-put y z (place-blocks y successorCountCell b (omega arith) (omega arith) h) n
+
+    cleared-edge : (k : ℕ) → k < 2 → edgeWord (countedEdges b n m) b k ≡ 0
+    unfolding countedEdges
+    cleared-edge zero l = edge-other m₂ b 1 0 b 0 (λ w. omega arith) ∙ edge-put y b 0 0 z₁ h l
+    cleared-edge (suc zero) l = edge-put y b 1 0 z₂ h l
+    cleared-edge (suc (suc k)) l = absurd (omega arith)
 
 -- ---- both together
 
-pub edges-other : (b : ℕ) (ts : List ℕ) (m : Mem) (k : ℕ) → k ≢ successorCountCell → k ≢ successorCell → cell (putEdges b ts m) k ≡ cell m k
-unfolding putEdges
-edges-other b ts m k f g = link-other (2 * b) ts (countedEdges b (length ts) m) k g ∙ counted-other b (length ts) m k f g
+-- what `successors` does: block b's edges lead to the blocks that begin at the instructions ts, and the words of other blocks stay
+pub record Edged (b : ℕ) (ts : List ℕ) (m m′ : Mem) : Type 0 where
+  pub counted : word m′ successorCountCell b ≡ length ts
+  pub edges : (k : ℕ) → k < length ts → edgeWord m′ b k ≡ word m blockOfCell (getD ts k 0)
+  pub unused : (k : ℕ) → k < 2 → length ts ≤ k → edgeWord m′ b k ≡ 0
+  pub other-counts : (d : ℕ) → d ≢ b → word m′ successorCountCell d ≡ word m successorCountCell d
+  pub other-edges : (d k : ℕ) → d ≢ b → k < 2 → edgeWord m′ d k ≡ edgeWord m d k
+  pub only : Only edgeCells NoRow m m′
 
-module _ (y : Layout) (b : ℕ) (ts : List ℕ) (m : Mem) (z : Sized (scratchWidths y) m) (h : b < y .blocks) (few : length ts ≤ 2) where
-  counts-stay : (d : ℕ) → word (putEdges b ts m) successorCountCell d ≡ word (countedEdges b (length ts) m) successorCountCell d
+module _ (y : Layout) (b : ℕ) (ts : List ℕ) {m : Mem} (z : Sized (scratchWidths y) m) (h : b < y .blocks) (few : length ts ≤ 2) where
+  -- counted, and nothing linked yet
+  abbrev begun : Mem
+  begun = countedEdges b (length ts) m
+
+  linked : Only (successorCell ∷ []) NoRow begun (putEdges b ts m)
   unfolding putEdges
-  counts-stay d =
-      same-word d (link-other (2 * b) ts (countedEdges b (length ts) m) successorCountCell (λ w. omega arith))
+  linked = link-only b 0 ts begun
 
-  pub edges-counted : word (putEdges b ts m) successorCountCell b ≡ length ts
-  edges-counted = counts-stay b ∙ counted-here y b (length ts) m z h
-
-  pub counts-other : (d : ℕ) → d ≢ b → word (putEdges b ts m) successorCountCell d ≡ word m successorCountCell d
-  counts-other d f = counts-stay d ∙ counted-there y b (length ts) m z h d f
-
-  -- the k-th edge leads to the block of the k-th target
-  pub edges-lead : (k : ℕ) → k < length ts → word (putEdges b ts m) successorCell (2 * b + k) ≡ word m blockOfCell (getD ts k 0)
+  put-edged : Edged b ts m (putEdges b ts m)
   unfolding putEdges
-  edges-lead k l =
-      link-at y (2 * b) ts (countedEdges b (length ts) m) k (counted-sized y b (length ts) m z h) (omega arith) l
-      ∙ same-word (getD ts k 0) (counted-other b (length ts) m blockOfCell (λ w. omega arith) (λ w. omega arith))
+  put-edged = record {
+    counted = same-word b (linked .named successorCountCell refl) ∙ counted-here b (length ts) m y z h;
+    edges = λ k l.
+        let q : 0 + k ≡ k = omega arith in
+        rw q at (link-at y b 0 ts begun k (counted-sized b (length ts) m y z h) h (omega arith) l)
+        ∙ same-word (getD ts k 0) (counted-only b (length ts) m .named blockOfCell refl);
+    unused = λ k l g. link-apart b 0 ts begun b k (λ i lo hi w. omega arith) ∙ cleared-edge b (length ts) m y z h k l;
+    other-counts = λ d f. same-word d (linked .named successorCountCell refl) ∙ counted-there b (length ts) m d f;
+    other-edges = λ d k f l. link-apart b 0 ts begun d k (λ i lo hi w. omega arith) ∙ other-edge b (length ts) m d k f l;
+    only = only-then (counted-only b (length ts) m) (only-more edgeCells NoRow refl (λ k h r. r) linked);
+  }
 
-  pub edges-unused : (k : ℕ) → k < 2 → length ts ≤ k → word (putEdges b ts m) successorCell (2 * b + k) ≡ 0
-  unfolding putEdges
-  edges-unused k l g =
-      link-apart (2 * b) ts (countedEdges b (length ts) m) (2 * b + k) (λ i a b w. omega arith) ∙ cleared-edge y b (length ts) m z h k l
-
-  pub edges-before : (j : ℕ) → j < 2 * b → word (putEdges b ts m) successorCell j ≡ word m successorCell j
-  unfolding putEdges
-  edges-before j l = link-apart (2 * b) ts (countedEdges b (length ts) m) j (λ i a b w. omega arith) ∙ other-edge y b (length ts) m z h j l
+  pub edged : {m′ : Mem} → m′ ≡ putEdges b ts m → Edged b ts m m′
+  edged e = subst (λ (w : Mem). Edged b ts m w) (sym e) put-edged

@@ -1,6 +1,6 @@
 -- What is in a block's two rows: what its instructions use and what they define. Assumes nothing.
 use mathlib.Core.Path.{_≡_, refl, sym, ap, ap₂, _∙_}
-use mathlib.Core.Bool.{Bool, true, false, not, _&&_, _||_, and-false, or-false, or-true, or-comm, or-assoc}
+use mathlib.Core.Bool.{Bool, true, false, not, _&&_, _||_, and-false, or-false, or-true, or-comm}
 use mathlib.Core.List.{List, [], _∷_}
 use Prim.Native.Nat.{ℕ, _*_, _/_, _<_}
 use native.Mathlib.Decide.{ℕ-discrete}
@@ -9,16 +9,19 @@ use borrow.Author.Tests.{eq-eqb, ne-eqb}
 use lib.Dec.{eqb}
 use lib.ListN.{length, replicate, length-replicate}
 use Rattle.bitset.specs.Sets.{member, inserted}
-use Rattle.bitset.proofs.SetLaws.{same-either-way, length-inserted, member-inserted, member-zero}
+use Rattle.bitset.proofs.SetLaws.{length-inserted, member-inserted, member-zero}
 use Rattle.dataflow.specs.Lists.{pick, elem}
 use Rattle.dataflow.specs.Blocks.{uses, defines}
-use Rattle.dataflow.specs.Code.{Instruction, instructionAt, program}
+use Rattle.dataflow.specs.Code.{Instruction, instructionAt, program, body}
 use Rattle.bitset.specs.Below.{AllBelow}
 use Rattle.instructions.specs.Sets.{insertedAll}
 use Rattle.operands.specs.Patterns.{among}
 use Rattle.instructions.proofs.SetSteps.{length-all}
 use Rattle.instructions.proofs.SetMembers as sets
-use Rattle.blocks.specs.Rows.{usedIn, Transfer, transferOne, transferAll}
+use Rattle.memory.specs.Cells.{Mem, cell}
+use Rattle.memory.specs.Names.{usesRow, definesRow}
+use Rattle.blocks.specs.Rows.{usedIn, Transfer, transferOne, transferAll, rowsAt}
+use Rattle.blocks.specs.Blocks.{BlockRows}
 
 -- ---- the outputs put in
 
@@ -90,7 +93,7 @@ member-used d (x ∷ l) u w k q a =
 module _ (code : List Instruction) (parameter : ℕ → Bool) (w : ℕ)
     (ins : (i : ℕ) → AllBelow (64 * w) (instructionAt code i .inputs)) (outs : (i : ℕ) → AllBelow (64 * w) (instructionAt code i .outputs)) where
   -- the slot k after them
-  pub members-after : (l : List ℕ) (r : Transfer) (k : ℕ) → length (r .uses) ≡ w → length (r .defines) ≡ w
+  members-after : (l : List ℕ) (r : Transfer) (k : ℕ) → length (r .uses) ≡ w → length (r .defines) ≡ w
       → (member (transferAll code l r .uses) k ≡ uses (program code parameter) k (member (r .defines) k) (member (r .uses) k) l)
       × (member (transferAll code l r .defines) k ≡ defines (program code parameter) k (member (r .defines) k) l)
   unfolding transferAll
@@ -105,7 +108,7 @@ module _ (code : List Instruction) (parameter : ℕ → Bool) (w : ℕ)
       )
 
   -- from nothing
-  pub members-from-none : (l : List ℕ) (r : Transfer) (k : ℕ) → r .uses ≡ replicate w 0 → r .defines ≡ replicate w 0
+  members-from-none : (l : List ℕ) (r : Transfer) (k : ℕ) → r .uses ≡ replicate w 0 → r .defines ≡ replicate w 0
       → (member (transferAll code l r .uses) k ≡ uses (program code parameter) k false false l)
       × (member (transferAll code l r .defines) k ≡ defines (program code parameter) k false l)
   members-from-none l r k p q =
@@ -116,3 +119,11 @@ module _ (code : List Instruction) (parameter : ℕ → Bool) (w : ℕ)
         z .0 ∙ ap₂ (λ (s t : Bool). uses (program code parameter) k s t l) d u,
         z .1 ∙ ap (λ (s : Bool). defines (program code parameter) k s l) d,
       )
+
+  -- the rows of a block whose instructions were gone through from nothing
+  pub rows-from-none : (m : Mem) {m′ : Mem} {b : ℕ} → cell m (usesRow b) ≡ replicate w 0 → cell m (definesRow b) ≡ replicate w 0
+      → rowsAt m′ b ≡ transferAll code (body code b) (rowsAt m b) → BlockRows code parameter m′ b
+  rows-from-none m {b = b} p q e = record {
+    uses-are = λ k. ap (λ (r : Transfer). member (r .uses) k) e ∙ members-from-none (body code b) (rowsAt m b) k p q .0;
+    defines-are = λ k. ap (λ (r : Transfer). member (r .defines) k) e ∙ members-from-none (body code b) (rowsAt m b) k p q .1;
+  }

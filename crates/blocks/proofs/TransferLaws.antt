@@ -1,5 +1,4 @@
 -- The instructions of a block one by one: their charges, the costs noted, and the two rows. Assumes nothing.
-use mathlib.Core.Logic.{_≢_}
 use mathlib.Core.Path.{_≡_, refl, sym, ap, ap₂, _∙_}
 use mathlib.Core.List.{List, [], _∷_, _++_, map, map-append}
 use Prim.Native.Nat.{ℕ, suc, _+_, _-_, _≤_, _<_}
@@ -11,10 +10,12 @@ use Rattle.dataflow.proofs.Lists.{range-append, range-snoc}
 use Rattle.dataflow.specs.Code.{Instruction, instructionAt}
 use Rattle.dataflow.specs.Charges.{costAt}
 use Rattle.memory.specs.Cells.{Mem, cell, word, store, storeCell}
-use Rattle.memory.specs.Names.{offsetCell, costCell, usesRow, definesRow}
+use Rattle.memory.specs.Names.{offsetCell, costCell, firstRow, usesRow, definesRow}
+use Rattle.memory.specs.Frame.{Only, NoRow, ThisRow, RowsOf}
 use Rattle.memory.specs.Scratch.{scratchWidths, scratchCells}
 use Rattle.memory.specs.declared.layout.Layout.{Layout}
-use Rattle.memory.proofs.CellLaws.{Sized, same-word, sized-store, cell-store-same, cell-store-other, word-store-other}
+use Rattle.memory.proofs.CellLaws.{Sized, same-word, sized-store, cell-store-same, word-store-other}
+use Rattle.memory.proofs.FrameLaws.{only-none, only-then, only-more, only-cell, only-row}
 use Rattle.memory.proofs.ScratchLaws.{word-put, scratch-count, place-instructions}
 use Rattle.budget.specs.declared.FlowBudget.{FlowBudget}
 use Rattle.budget.specs.declared.Limits.{Limits}
@@ -63,20 +64,20 @@ pub record Transferring (code : List Instruction) (l : Limits) (budget left : Fl
   pub rows : rowsAt m′ b ≡ transferAll code (range start (pc - start)) (rowsAt m b)
   pub costs : (i : ℕ) → start ≤ i → i < pc → word m′ costCell i ≡ costAt code i
   pub other-costs : (i : ℕ) → i < start → word m′ costCell i ≡ word m costCell i
-  pub others : (k : ℕ) → (k ≡ costCell → ⊥) → (k ≡ usesRow b → ⊥) → (k ≡ definesRow b → ⊥) → cell m′ k ≡ cell m k
+  pub only : Only (costCell ∷ []) (RowsOf b) m m′
 
 -- before the first of them
 pub transferring-none : {code : List Instruction} {l : Limits} {budget : FlowBudget} {b start : ℕ} {m : Mem}
     → Transferring code l budget budget b start start m m
 unfolding transferAll
-transferring-none {l = l} {budget = budget} {start = start} =
+transferring-none {l = l} {budget = budget} {start = start} {m = m} =
     let e : start - start ≡ 0 = omega arith in
     record {
       charges = rw e (charged-none l budget);
       rows = rw e refl;
       costs = λ i a c. absurd (omega arith);
       other-costs = λ i a. refl;
-      others = λ k f g h. refl;
+      only = only-none m;
     }
 
 module _ {code : List Instruction} {l : Limits} {budget : FlowBudget} {b start : ℕ} {m : Mem} where
@@ -88,7 +89,7 @@ module _ {code : List Instruction} {l : Limits} {budget : FlowBudget} {b start :
     rows = λ x e. g .rows ∙ ap (λ (n : ℕ). transferAll code (range start (n - start)) (rowsAt m b)) q;
     costs = λ x e i a c. g .costs i a (omega arith);
     other-costs = g .other-costs;
-    others = g .others;
+    only = g .only;
   }
 
   module _ {left : FlowBudget} {pc n : ℕ} {m′ m₁ : Mem} (a : start ≤ pc) (g : Transferring code l budget left b start pc m m′)
@@ -96,6 +97,10 @@ module _ {code : List Instruction} {l : Limits} {budget : FlowBudget} {b start :
       (c : r ≡ charged l left ((n + 1) ∷ [])) where
     cost-is : n + 1 ≡ costAt code pc
     cost-is = ap (λ (k : ℕ). k + 1) e
+
+    -- the charge noted
+    noted : {rows : ℕ → Type 0} → Only (costCell ∷ []) rows m′ m₁
+    noted = only-cell costCell _ (omega arith) e₁
 
     -- a charge crosses the limit
     pub transferred-over : {end : ℕ} {x : FlowBudget} → pc < end → r ≡ Over x → Transferred code l budget b start end m m₁ r
@@ -108,7 +113,7 @@ module _ {code : List Instruction} {l : Limits} {budget : FlowBudget} {b start :
       costs = λ y q i. let o : _≡_ {A = ℕ} 0 1 = cc in absurd (omega arith);
       other-costs = λ i h. ap (λ (w : Mem). word w costCell i) e₁ ∙ word-store-other m′ costCell pc (n + 1) costCell i (λ _ q. omega arith)
           ∙ g .other-costs i h;
-      others = λ k f f′ f″. ap (λ (w : Mem). cell w k) e₁ ∙ cell-store-other m′ costCell _ k f ∙ g .others k f f′ f″;
+      only = only-then (g .only) noted;
     }
 
     -- one instruction more
@@ -116,14 +121,16 @@ module _ {code : List Instruction} {l : Limits} {budget : FlowBudget} {b start :
         (p : instructionAt code pc .inputs ≡ ins) (q : instructionAt code pc .outputs ≡ outs) (h : pc < y .instructions) (hb : b < y .blocks)
         (e₂ : m₂ ≡ storeCell m₁ (usesRow b) (usedIn (cell m₁ (definesRow b)) ins (cell m₁ (usesRow b))))
         (e₃ : m₃ ≡ storeCell m₂ (definesRow b) (insertedAll outs (cell m₂ (definesRow b)))) where
-      cell₁ : (k : ℕ) → k ≢ costCell → cell m₁ k ≡ cell m′ k
-      cell₁ k f = ap (λ (w : Mem). cell w k) e₁ ∙ cell-store-other m′ costCell _ k f
+      -- a row each
+      used : Only [] (ThisRow (usesRow b)) m₁ m₂
+      used = only-row (usesRow b) _ (omega arith) e₂
 
-      cell₂ : (k : ℕ) → k ≢ usesRow b → cell m₂ k ≡ cell m₁ k
-      cell₂ k f = ap (λ (w : Mem). cell w k) e₂ ∙ cell-store-other m₁ (usesRow b) _ k f
+      defined : Only [] (ThisRow (definesRow b)) m₂ m₃
+      defined = only-row (definesRow b) _ (omega arith) e₃
 
-      cell₃ : (k : ℕ) → k ≢ definesRow b → cell m₃ k ≡ cell m₂ k
-      cell₃ k f = ap (λ (w : Mem). cell w k) e₃ ∙ cell-store-other m₂ (definesRow b) _ k f
+      -- the rows as they were
+      row₁ : (k : ℕ) → firstRow ≤ k → cell m₁ k ≡ cell m′ k
+      row₁ k h = noted {rows = NoRow} .others k h (λ w. w)
 
       count₁ : length m₁ ≡ scratchCells y
       count₁ = ap length e₁ ∙ sized-store (scratchWidths y) m′ costCell pc (n + 1) z .count ∙ scratch-count y
@@ -133,28 +140,32 @@ module _ {code : List Instruction} {l : Limits} {budget : FlowBudget} {b start :
 
       uses-is : cell m₃ (usesRow b) ≡ usedIn (cell m′ (definesRow b)) (instructionAt code pc .inputs) (cell m′ (usesRow b))
       uses-is =
-          cell₃ (usesRow b) (λ w. omega arith) ∙ ap (λ (w : Mem). cell w (usesRow b)) e₂
+          defined .others (usesRow b) (omega arith) (λ w. omega arith) ∙ ap (λ (w : Mem). cell w (usesRow b)) e₂
           ∙ cell-store-same m₁ (usesRow b) _ (omega (arith, count₁))
-          ∙ ap₂ (λ (d u : List ℕ). usedIn d ins u) (cell₁ (definesRow b) (λ w. omega arith)) (cell₁ (usesRow b) (λ w. omega arith))
+          ∙ ap₂ (λ (d u : List ℕ). usedIn d ins u) (row₁ (definesRow b) (omega arith)) (row₁ (usesRow b) (omega arith))
           ∙ ap (λ (w : List ℕ). usedIn (cell m′ (definesRow b)) w (cell m′ (usesRow b))) (sym p)
 
       defines-is : cell m₃ (definesRow b) ≡ insertedAll (instructionAt code pc .outputs) (cell m′ (definesRow b))
       defines-is =
           ap (λ (w : Mem). cell w (definesRow b)) e₃ ∙ cell-store-same m₂ (definesRow b) _ (omega (arith, count₁, count₂))
-          ∙ ap₂ insertedAll (sym q) (cell₂ (definesRow b) (λ w. omega arith) ∙ cell₁ (definesRow b) (λ w. omega arith))
+          ∙ ap₂ insertedAll (sym q) (used .others (definesRow b) (omega arith) (λ w. omega arith) ∙ row₁ (definesRow b) (omega arith))
 
       rows-more : rowsAt m₃ b ≡ transferOne (instructionAt code pc) (rowsAt m′ b)
       rows-more = ap₂ (λ (u d : List ℕ). record { uses = u; defines = d }) uses-is defines-is
 
       cost₃ : (i : ℕ) → word m₃ costCell i ≡ word m₁ costCell i
-      cost₃ i =
-          same-word i (cell₃ costCell (λ w. omega arith) ∙ cell₂ costCell (λ w. omega arith))
+      cost₃ i = same-word i (defined .named costCell refl ∙ used .named costCell refl)
 
       cost-at : (i : ℕ) → start ≤ i → i < pc + 1 → Dec (i ≡ pc) → word m₁ costCell i ≡ costAt code i
       cost-at i lo hi (yes w) =
-          ap (λ (v : Mem). word v costCell i) e₁ ∙ rw w (word-put y z (place-instructions y 3 pc (omega arith) h) (n + 1) ∙ cost-is)
+          ap (λ (v : Mem). word v costCell i) e₁ ∙ rw w (word-put y z (place-instructions y costCell pc (omega arith) h) (n + 1) ∙ cost-is)
       cost-at i lo hi (no w) =
           ap (λ (v : Mem). word v costCell i) e₁ ∙ word-store-other m′ costCell pc (n + 1) costCell i (λ _. w) ∙ g .costs i lo (omega arith)
+
+      -- a row of this block
+      wider : {rows : ℕ → Type 0} {w w′ : Mem} → Only [] rows w w′ → ((k : ℕ) → firstRow ≤ k → rows k → RowsOf b k)
+          → Only (costCell ∷ []) (RowsOf b) w w′
+      wider o f = only-more (costCell ∷ []) (RowsOf b) refl f o
 
       pub transferring-more : Transferring code l budget left′ b start (pc + 1) m m₃
       unfolding transferAll
@@ -169,7 +180,8 @@ module _ {code : List Instruction} {l : Limits} {budget : FlowBudget} {b start :
         costs = λ i lo hi. cost₃ i ∙ cost-at i lo hi (ℕ-discrete i pc);
         other-costs = λ i lo. cost₃ i ∙ ap (λ (w : Mem). word w costCell i) e₁
             ∙ word-store-other m′ costCell pc (n + 1) costCell i (λ _ w. omega arith) ∙ g .other-costs i lo;
-        others = λ k f f′ f″. cell₃ k f″ ∙ cell₂ k f′ ∙ cell₁ k f ∙ g .others k f f′ f″;
+        only = only-then (g .only) (only-then noted
+            (only-then (wider used (λ k h w. (omega arith, omega arith))) (wider defined (λ k h w. (omega arith, omega arith)))));
       }
 
 -- ---- what is read at pc
@@ -192,4 +204,4 @@ module _ {s : List ℕ} {x : Script} {y : Layout} {m : Mem} (ok : Ready s x y m)
 -- the offsets stay while the instructions of a block are gone through
 pub offsets-stay : {code : List Instruction} {l : Limits} {budget left : FlowBudget} {b start pc : ℕ} {m m′ : Mem}
     → Transferring code l budget left b start pc m m′ → cell m′ offsetCell ≡ cell m offsetCell
-offsets-stay g = g .others offsetCell (λ e. omega arith) (λ e. omega arith) (λ e. omega arith)
+offsets-stay g = g .only .named offsetCell refl

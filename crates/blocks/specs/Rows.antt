@@ -8,6 +8,7 @@ use Rattle.dataflow.specs.Code.{Instruction, instructionAt}
 use Rattle.dataflow.specs.Charges.{costAt}
 use Rattle.memory.specs.Cells.{Mem, cell, word}
 use Rattle.memory.specs.Names.{costCell, usesRow, definesRow}
+use Rattle.memory.specs.Frame.{Only, RowsOf}
 use Rattle.budget.specs.declared.FlowBudget.{FlowBudget}
 use Rattle.budget.specs.declared.Limits.{Limits}
 use Rattle.budget.specs.declared.Charged.{Charged}
@@ -43,4 +44,4 @@ pub record Transferred (code : List Instruction) (l : Limits) (budget : FlowBudg
   pub rows : (left : FlowBudget) → r ≡ Ok left → rowsAt m′ b ≡ transferAll code (range start (end - start)) (rowsAt m b)
   pub costs : (left : FlowBudget) → r ≡ Ok left → (i : ℕ) → start ≤ i → i < end → word m′ costCell i ≡ costAt code i
   pub other-costs : (i : ℕ) → i < start → word m′ costCell i ≡ word m costCell i
-  pub others : (k : ℕ) → (k ≡ costCell → ⊥) → (k ≡ usesRow b → ⊥) → (k ≡ definesRow b → ⊥) → cell m′ k ≡ cell m k
+  pub only : Only (costCell ∷ []) (RowsOf b) m m′

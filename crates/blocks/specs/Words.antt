@@ -1,12 +1,13 @@
 -- The words of one block: its start and end, and its edges.
 use mathlib.Core.Bool.{Bool}
 use mathlib.Core.List.{List, [], _∷_}
-use Prim.Native.Nat.{ℕ, suc, _+_, _*_}
+use Prim.Native.Nat.{ℕ, suc, _+_}
 use lib.Dec.{ltb}
 use lib.ListN.{length}
 use Rattle.dataflow.specs.Lists.{pick}
 use Rattle.memory.specs.Cells.{Mem, word, store}
-use Rattle.memory.specs.Names.{blockOfCell, leaderCell, startCell, endCell, successorCell, successorCountCell}
+use Rattle.memory.specs.Names.{blockOfCell, leaderCell, startCell, endCell, successorCountCell}
+use Rattle.memory.specs.Edges.{storeEdge}
 use Rattle.memory.specs.declared.layout.Layout.{Layout}
 
 -- where block b ends: at the next one's start, the last one at the end of the code
@@ -23,13 +24,13 @@ nextOf ends targets end = pick ends targets (end ∷ [])
 
 -- block b has so many edges, and none of them leads anywhere yet
 unfoldable pub countedEdges : ℕ → ℕ → Mem → Mem
-countedEdges b n m = store (store (store m successorCountCell b n) successorCell (2 * b) 0) successorCell (2 * b + 1) 0
+countedEdges b n m = storeEdge (storeEdge (store m successorCountCell b n) b 0 0) b 1 0
 
--- the edges from e on lead to the blocks that begin at these instructions
-unfoldable pub linkEdges : ℕ → List ℕ → Mem → Mem
-linkEdges e [] m = m
-linkEdges e (t ∷ ts) m = linkEdges (suc e) ts (store m successorCell e (word m blockOfCell t))
+-- block b's edges from the k-th on lead to the blocks that begin at these instructions
+unfoldable pub linkEdges : ℕ → ℕ → List ℕ → Mem → Mem
+linkEdges b k [] m = m
+linkEdges b k (t ∷ ts) m = linkEdges b (suc k) ts (storeEdge m b k (word m blockOfCell t))
 
 -- block b's edges lead to the blocks that begin at these instructions
 unfoldable pub putEdges : ℕ → List ℕ → Mem → Mem
-putEdges b ts m = linkEdges (2 * b) ts (countedEdges b (length ts) m)
+putEdges b ts m = linkEdges b 0 ts (countedEdges b (length ts) m)

@@ -10,7 +10,7 @@ use memory::layout;
 use memory::layout::Layout;
 use sheet::script::Script;
 ghost use mathlib.Core.Path.{_≡_};
-ghost use Prim.Native.Nat.{_+_, _*_, _≤_, _<_};
+ghost use Prim.Native.Nat.{_<_};
 ghost use lib.ListN.{length, replicate};
 ghost use Rattle.bitset.specs.Sets.{ones};
 ghost use Rattle.memory.specs.Cells.{storeCell};

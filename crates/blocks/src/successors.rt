@@ -7,13 +7,14 @@ use operands::instruction::TargetOperand;
 use operands::kinds;
 ghost use mathlib.Core.Path.{_≡_};
 ghost use mathlib.Core.Bool.{false};
-ghost use Prim.Native.Nat.{_+_, _*_, _≤_, _<_};
+ghost use Prim.Native.Nat.{_<_};
 ghost use lib.ListN.{length, getD};
 ghost use Rattle.operands.specs.Kinds.{endsBlock};
 ghost use Rattle.operands.specs.Operands.{targetsOf};
 ghost use Rattle.operands.specs.Instructions.{Readable, valuesOf};
-ghost use Rattle.memory.specs.Cells.{word, store};
-ghost use Rattle.memory.specs.Names.{blockOfCell, successorCell};
+ghost use Rattle.memory.specs.Cells.{word};
+ghost use Rattle.memory.specs.Names.{blockOfCell};
+ghost use Rattle.memory.specs.Edges.{storeEdge};
 ghost use Rattle.memory.specs.Scratch.{scratch, Room};
 ghost use Rattle.bitset.specs.Below.{AllBelow};
 ghost use Rattle.blocks.specs.Words.{nextOf, countedEdges, linkEdges, putEdges};
@@ -31,7 +32,7 @@ pub fn successors(sheet: &[u8], s: &mut [u64], y: Layout, block: usize, i: Instr
         return;
     }
     count_edges(s, y, block, 1);
-    link(s, y, 2 * block, end);
+    link(s, y, block, 0, end);
 }
 
 // So many edges, and none of them leads anywhere yet.
@@ -40,37 +41,37 @@ fn count_edges(s: &mut [u64], y: Layout, block: usize, count: u64)
     ensures { λ _. ⌜ scratch y (now (s .exit)) ≡ countedEdges block count (scratch y (now (s .entry))) ⌝ }
 {
     memory::scratch::put(s, y, layout::SUCCESSOR_COUNT, block, count);
-    memory::scratch::put(s, y, layout::SUCCESSOR, 2 * block, 0);
-    memory::scratch::put(s, y, layout::SUCCESSOR, 2 * block + 1, 0);
+    memory::edges::put(s, y, block, 0, 0);
+    memory::edges::put(s, y, block, 1, 0);
 }
 
-// An edge to the block that begins at an instruction.
-fn link(s: &mut [u64], y: Layout, edge: usize, to: usize)
-    requires { ⌜ Room y (length (now s)) × (edge < 2 * y .blocks) × (to < y .instructions) ⌝ }
-    ensures { λ _. ⌜ scratch y (now (s .exit)) ≡ store (scratch y (now (s .entry))) successorCell edge (word (scratch y (now (s .entry))) blockOfCell to) ⌝ }
+// The k-th edge of a block leads to the block that begins at an instruction.
+fn link(s: &mut [u64], y: Layout, block: usize, k: usize, to: usize)
+    requires { ⌜ Room y (length (now s)) × (block < y .blocks) × (k < 2) × (to < y .instructions) ⌝ }
+    ensures { λ _. ⌜ scratch y (now (s .exit)) ≡ storeEdge (scratch y (now (s .entry))) block k (word (scratch y (now (s .entry))) blockOfCell to) ⌝ }
 {
-    let block = memory::scratch::get(s, y, layout::BLOCK_OF, to);
-    memory::scratch::put(s, y, layout::SUCCESSOR, edge, block);
+    let number = memory::scratch::get(s, y, layout::BLOCK_OF, to);
+    memory::edges::put(s, y, block, k, number);
 }
 
 // An edge for each target, at most two.
 fn link_targets(sheet: &[u8], s: &mut [u64], y: Layout, block: usize, i: Instruction, n: usize)
     requires { ⌜ (Readable (now sheet) i) × Room y (length (now s)) × (block < y .blocks) × (AllBelow (y .instructions) (targetsOf (i .pattern .kind) (valuesOf (now sheet) i))) × (n ≡ length (targetsOf (i .pattern .kind) (valuesOf (now sheet) i))) ⌝ }
-    ensures { λ _. ⌜ scratch y (now (s .exit)) ≡ linkEdges (2 * block) (targetsOf (i .pattern .kind) (valuesOf (now (sheet .entry)) i)) (scratch y (now (s .entry))) ⌝ }
+    ensures { λ _. ⌜ scratch y (now (s .exit)) ≡ linkEdges block 0 (targetsOf (i .pattern .kind) (valuesOf (now (sheet .entry)) i)) (scratch y (now (s .entry))) ⌝ }
 {
     let mut k = 0;
     while k < n {
-        link_target(sheet, s, y, 2 * block + k, i, k);
+        link_target(sheet, s, y, block, i, k);
         k += 1;
     }
 }
 
-fn link_target(sheet: &[u8], s: &mut [u64], y: Layout, edge: usize, i: Instruction, k: usize)
-    requires { ⌜ (Readable (now sheet) i) × Room y (length (now s)) × (edge < 2 * y .blocks) × (AllBelow (y .instructions) (targetsOf (i .pattern .kind) (valuesOf (now sheet) i))) × (k < length (targetsOf (i .pattern .kind) (valuesOf (now sheet) i))) ⌝ }
-    ensures { λ _. ⌜ scratch y (now (s .exit)) ≡ store (scratch y (now (s .entry))) successorCell edge (word (scratch y (now (s .entry))) blockOfCell (getD (targetsOf (i .pattern .kind) (valuesOf (now (sheet .entry)) i)) k 0)) ⌝ }
+fn link_target(sheet: &[u8], s: &mut [u64], y: Layout, block: usize, i: Instruction, k: usize)
+    requires { ⌜ (Readable (now sheet) i) × Room y (length (now s)) × (block < y .blocks) × (AllBelow (y .instructions) (targetsOf (i .pattern .kind) (valuesOf (now sheet) i))) × (k < length (targetsOf (i .pattern .kind) (valuesOf (now sheet) i))) ⌝ }
+    ensures { λ _. ⌜ scratch y (now (s .exit)) ≡ storeEdge (scratch y (now (s .entry))) block k (word (scratch y (now (s .entry))) blockOfCell (getD (targetsOf (i .pattern .kind) (valuesOf (now (sheet .entry)) i)) k 0)) ⌝ }
 {
     let TargetOperand::Is(t) = instruction::target(sheet, i, k) else {
         return;
     };
-    link(s, y, edge, t.index());
+    link(s, y, block, k, t.index());
 }

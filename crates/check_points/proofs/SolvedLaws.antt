@@ -2,7 +2,7 @@
 use mathlib.Core.Path.{_≡_, sym, ap, subst, _∙_}
 use mathlib.Core.Bool.{Bool}
 use mathlib.Core.List.{List}
-use Prim.Native.Nat.{ℕ, _+_, _*_, _^_, _<_}
+use Prim.Native.Nat.{ℕ, _^_, _<_}
 use native.Mathlib.Omega.{arith}
 use lib.ListN.{length, getD}
 use Rattle.bitset.specs.Sets.{member}
@@ -11,9 +11,10 @@ use Rattle.dataflow.specs.Results.{initEntry, liveExit}
 use Rattle.budget.specs.declared.FlowBudget.{FlowBudget}
 use Rattle.budget.specs.declared.Limits.{Limits}
 use Rattle.memory.specs.Cells.{Mem, cell, word, storeCell}
-use Rattle.memory.specs.Names.{offsetCell, costCell, startCell, endCell, stateRow, liveStateRow, hostsRow, parametersRow, initializedRow, liveRow}
-use Rattle.memory.specs.Scratch.{scratch, Room}
-use Rattle.memory.specs.Sets.{sets, SetsRoom}
+use Rattle.memory.specs.Names.{offsetCell, costCell, startCell, endCell, firstRow, stateRow, liveStateRow, hostsRow, parametersRow, initializedRow, liveRow}
+use Rattle.memory.specs.Edges.{Connected}
+use Rattle.memory.specs.Scratch.{scratch, scratchCells, Room}
+use Rattle.memory.specs.Sets.{sets, SetsRoom, SetsRow}
 use Rattle.memory.specs.declared.layout.Layout.{Layout}
 use Rattle.memory.proofs.CellLaws.{cell-store-same, cell-store-other, same-word}
 use Rattle.memory.proofs.ScratchLaws.{scratch-length, row-words}
@@ -22,7 +23,6 @@ use Rattle.sheet.specs.declared.script.Script.{Script}
 use Rattle.edges.proofs.FlowLaws.{Still, flows-still}
 use Rattle.transfer.specs.declared.direction.Direction.{Direction}
 use Rattle.transfer.specs.declared.direction.Direction.the-variants.{Initialization, Liveness}
-use Rattle.transfer.specs.Neighbors.{Connected}
 use Rattle.transfer.specs.Transfer.{runningRow, gathered}
 use Rattle.fixed_points.specs.FixedPoints.{Sets}
 use Rattle.fixed_points.proofs.CodeGraph.{connected}
@@ -53,7 +53,7 @@ still-running {y} h = record {
 
 module _ {y : Layout} {m m′ : Mem} (h : RunningOnly y m m′) where
   -- a word of the cells before the rows
-  pub word-kept : (k i : ℕ) → k < 10 → word m′ k i ≡ word m k i
+  pub word-kept : (k i : ℕ) → k < firstRow → word m′ k i ≡ word m k i
   word-kept k i lt = same-word i (h .others k (λ e. omega arith) (λ e. omega arith))
 
   -- the row of the parameters
@@ -79,14 +79,14 @@ module _ {y : Layout} {m m′ : Mem} (h : RunningOnly y m m′) where
 
 -- the sets of the blocks stay where the rows of the sets buffer do
 pub sets-kept : {code : List Instruction} {parameter : ℕ → Bool} {y : Layout} {t t′ : Mem}
-    → ((k : ℕ) → k < 2 * y .blocks → cell t′ k ≡ cell t k) → Sets code parameter y t → Sets code parameter y t′
+    → ((k : ℕ) → SetsRow y k → cell t′ k ≡ cell t k) → Sets code parameter y t → Sets code parameter y t′
 sets-kept h g = record {
   initialized = λ c i lc li. ap (λ (ws : List ℕ). member ws i) (h (initializedRow c) (omega arith)) ∙ g .initialized c i lc li;
   live = λ c i lc li. ap (λ (ws : List ℕ). member ws i) (h (liveRow c) (omega arith)) ∙ g .live c i lc li;
 }
 
 -- so what the words hold stays
-pub solved-sets : {s : List ℕ} {parameter : ℕ → Bool} {x : Script} {y : Layout} {m t t′ : Mem} → ((k : ℕ) → k < 2 * y .blocks → cell t′ k ≡ cell t k)
+pub solved-sets : {s : List ℕ} {parameter : ℕ → Bool} {x : Script} {y : Layout} {m t t′ : Mem} → ((k : ℕ) → SetsRow y k → cell t′ k ≡ cell t k)
     → Solved s parameter x y m t → Solved s parameter x y m t′
 solved-sets h p = record {
   coded = p .coded;
@@ -117,7 +117,7 @@ pub solved-connected : {s : List ℕ} {parameter : ℕ → Bool} {x : Script} {y
 solved-connected p = connected (p .scripted) (p .flows)
 
 -- a row that was stored stands for what its words stand for
-pub stored-means : (y : Layout) (l : List ℕ) (w k : ℕ) (ws : List ℕ) (f : ℕ → Bool) {m′ : Mem} → k < 22 + 4 * y .blocks
+pub stored-means : (y : Layout) (l : List ℕ) (w k : ℕ) (ws : List ℕ) (f : ℕ → Bool) {m′ : Mem} → k < scratchCells y
     → m′ ≡ storeCell (scratch y l) k ws → Means w ws f → Means w (cell m′ k) f
 stored-means y l w k ws f lt e h =
     subst (λ (v : List ℕ). Means w v f)

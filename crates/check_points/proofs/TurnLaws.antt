@@ -2,7 +2,7 @@
 use mathlib.Core.Path.{_≡_, refl, sym, ap, subst, _∙_}
 use mathlib.Core.Bool.{Bool}
 use mathlib.Core.List.{List, [], _∷_, _++_, append-nil}
-use Prim.Native.Nat.{ℕ, suc, _+_, _-_, _*_, _≤_, _<_}
+use Prim.Native.Nat.{ℕ, suc, _+_, _-_, _≤_, _<_}
 use native.Mathlib.Nat.{add-zero}
 use native.Mathlib.Omega.{arith}
 use lib.ListN.{length, length-append}
@@ -12,6 +12,7 @@ use Rattle.budget.specs.declared.FlowBudget.{FlowBudget}
 use Rattle.budget.specs.declared.Limits.{Limits}
 use Rattle.format.specs.declared.refusal.Refusal.{Refusal}
 use Rattle.memory.specs.Cells.{Mem, cell}
+use Rattle.memory.specs.Sets.{SetsRow}
 use Rattle.memory.specs.declared.layout.Layout.{Layout}
 use Rattle.sheet.specs.declared.script.Script.{Script}
 use Rattle.sheet.specs.Decode.{partsOf}
@@ -62,7 +63,7 @@ pub record Turned (s : List ℕ) (parameter : ℕ → Bool) (x : Script) (y : La
       ≡ pointsRun (codeOf s) parameter l (y .words) (x .slots) (hostIn (partsOf s)) b
   pub count : place ≡ length (pointsBefore s parameter (y .words) block)
   pub entries : Entries y t′ 0 (pointsBefore s parameter (y .words) block)
-  pub rows : (k : ℕ) → k < 2 * y .blocks → cell t′ k ≡ cell t k
+  pub rows : (k : ℕ) → SetsRow y k → cell t′ k ≡ cell t k
   pub others : RunningOnly y m m′
 
 -- before the first block
@@ -192,7 +193,7 @@ module _ {s : List ℕ} {parameter : ℕ → Bool} {x : Script} {y : Layout} {l 
         others = running-then (h .others) only;
       }
         where
-          below : (k : ℕ) → k < 2 * y .blocks → cell t″ k ≡ cell t′ k
+          below : (k : ℕ) → SetsRow y k → cell t″ k ≡ cell t′ k
           below k kt = p .earlier n last e k (omega (arith, kt))
 
 -- ---- the parameters as their row holds them

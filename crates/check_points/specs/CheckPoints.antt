@@ -2,7 +2,7 @@
 use mathlib.Core.Path.{_≡_}
 use mathlib.Core.Bool.{Bool}
 use mathlib.Core.List.{List, []}
-use Prim.Native.Nat.{ℕ, suc, _+_, _*_, _≤_, _<_}
+use Prim.Native.Nat.{ℕ, suc, _+_, _≤_, _<_}
 use lib.ListN.{length, getD}
 use Rattle.dataflow.specs.Lists.{pick}
 use Rattle.dataflow.specs.Code.{Instruction, leaders, body}
@@ -10,7 +10,8 @@ use Rattle.dataflow.specs.Results.{reachable, liveExit}
 use Rattle.budget.specs.declared.FlowBudget.{FlowBudget}
 use Rattle.budget.specs.declared.Limits.{Limits}
 use Rattle.memory.specs.Cells.{Mem, cell, word}
-use Rattle.memory.specs.Names.{startCell, endCell, stateRow, liveStateRow}
+use Rattle.memory.specs.Names.{startCell, endCell, stateRow, liveStateRow, awaitEntry}
+use Rattle.memory.specs.Sets.{SetsRow}
 use Rattle.memory.specs.declared.layout.Layout.{Layout}
 use Rattle.sheet.specs.declared.script.Script.{Script}
 use Rattle.sheet.specs.Decode.{partsOf}
@@ -78,7 +79,7 @@ pub record FoundChecked (s : List ℕ) (parameter : ℕ → Bool) (x : Script) (
   pub count : (n : ℕ) (left : FlowBudget) → r ≡ Passed n left → n ≡ place + found
   pub entries : (n : ℕ) (left : FlowBudget) → r ≡ Passed n left
       → Entries y t′ place (awaitPoints (codeOf s) parameter (liveExit (codeOf s) parameter (y .words) c) (body (codeOf s) c))
-  pub earlier : (n : ℕ) (left : FlowBudget) → r ≡ Passed n left → (k : ℕ) → k < 2 * y .blocks + place → cell t′ k ≡ cell t k
+  pub earlier : (n : ℕ) (left : FlowBudget) → r ≡ Passed n left → (k : ℕ) → k < awaitEntry (y .blocks) place → cell t′ k ≡ cell t k
   pub others : (k : ℕ) → (k ≡ stateRow (y .blocks) → ⊥) → (k ≡ liveStateRow (y .blocks) → ⊥) → cell m′ k ≡ cell m k
 
 -- what `check_block` does with block c, before which `place` awaits are reached
@@ -86,7 +87,7 @@ pub record BlockChecked (s : List ℕ) (parameter : ℕ → Bool) (x : Script) (
   pub answer : pointsOf r ≡ blockRun (codeOf s) parameter l (y .words) (x .slots) (hostIn (partsOf s)) c b
   pub count : (n : ℕ) (left : FlowBudget) → r ≡ Passed n left → n ≡ place + length (factsOf s parameter (y .words) c)
   pub entries : (n : ℕ) (left : FlowBudget) → r ≡ Passed n left → Entries y t′ place (factsOf s parameter (y .words) c)
-  pub earlier : (n : ℕ) (left : FlowBudget) → r ≡ Passed n left → (k : ℕ) → k < 2 * y .blocks + place → cell t′ k ≡ cell t k
+  pub earlier : (n : ℕ) (left : FlowBudget) → r ≡ Passed n left → (k : ℕ) → k < awaitEntry (y .blocks) place → cell t′ k ≡ cell t k
   pub others : (k : ℕ) → (k ≡ stateRow (y .blocks) → ⊥) → (k ≡ liveStateRow (y .blocks) → ⊥) → cell m′ k ≡ cell m k
 
 -- what `check_points` does
@@ -94,5 +95,5 @@ pub record PointsChecked (s : List ℕ) (parameter : ℕ → Bool) (x : Script) 
   pub answer : pointsOf r ≡ pointsRun (codeOf s) parameter l (y .words) (x .slots) (hostIn (partsOf s)) b
   pub count : (n : ℕ) (left : FlowBudget) → r ≡ Passed n left → n ≡ length (points (codeOf s) parameter (y .words))
   pub entries : (n : ℕ) (left : FlowBudget) → r ≡ Passed n left → Entries y t′ 0 (points (codeOf s) parameter (y .words))
-  pub rows : (n : ℕ) (left : FlowBudget) → r ≡ Passed n left → (k : ℕ) → k < 2 * y .blocks → cell t′ k ≡ cell t k
+  pub rows : (n : ℕ) (left : FlowBudget) → r ≡ Passed n left → (k : ℕ) → SetsRow y k → cell t′ k ≡ cell t k
   pub others : (k : ℕ) → (k ≡ stateRow (y .blocks) → ⊥) → (k ≡ liveStateRow (y .blocks) → ⊥) → cell m′ k ≡ cell m k

@@ -13,63 +13,48 @@ use lib.ListN.{length, getD, drop, drop-of-length-le}
 use lib.Seq.{drop-cons}
 use Rattle.dataflow.specs.Lists.{pick, tabulate}
 use Rattle.dataflow.specs.Results.{edgesTo, predecessorsFrom}
-use Rattle.memory.specs.Cells.{Mem, cell, word, store}
-use Rattle.memory.specs.Names.{firstEdgeCell, nextEdgeCell, predecessorCountCell, successorCell, successorCountCell}
+use Rattle.memory.specs.Cells.{Mem, word, store}
+use Rattle.memory.specs.Names.{firstEdgeCell, nextEdgeCell, predecessorCountCell, successorCountCell}
 use Rattle.memory.specs.Scratch.{edgeWords, scratchWidths}
-use Rattle.memory.specs.Edges.{successorAt, edgeFrom, sourceOf, placeOf}
+use Rattle.memory.specs.Edges.{successorAt, edgeFrom, sourceOf, placeOf, storeNext, chainFrom, edgesInto}
+use Rattle.memory.specs.Frame.{Only, NoRow}
 use Rattle.memory.specs.declared.layout.Layout.{Layout}
 use Rattle.memory.proofs.CellLaws.{Sized, sized-store, word-store-other, same-word}
 use Rattle.memory.proofs.ScratchLaws.{word-put, place-blocks, place-links}
 use Rattle.memory.proofs.EdgeLaws.{source-from, place-from}
+use Rattle.memory.proofs.FrameLaws.{only-then}
 use Rattle.edges.specs.Edges.{edgesBefore, Holds, Cleared}
 use Rattle.bitset.specs.Below.{AllBelow}
-use Rattle.edges.specs.Predecessors.{chainFrom, edgesInto, Chained}
-use Rattle.edges.specs.Chains.{linkedIn, OnlyChains, AllFrom, Chains, predecessorsSince, ChainedSince}
-use Rattle.edges.proofs.EdgeLaws.{cell-kept, holds-kept}
+use Rattle.edges.specs.Predecessors.{chainCells, Chained}
+use Rattle.edges.specs.Chains.{linkedIn, AllFrom, Chains, predecessorsSince, ChainedSince}
+use Rattle.edges.proofs.EdgeLaws.{only-store}
 
 -- ---- only the three cells of the chains change
-pub only-more : {m m′ m″ : Mem} → OnlyChains m m′ → OnlyChains m′ m″ → OnlyChains m m″
-only-more f g = record { others = λ k a b c. g .others k a b c ∙ f .others k a b c }
-
-pub only-holds : {next : ℕ → List ℕ} {y : Layout} {m m′ : Mem} → OnlyChains m m′ → Holds next y m → Holds next y m′
-only-holds f h =
-    holds-kept (f .others successorCountCell (λ q. omega arith) (λ q. omega arith) (λ q. omega arith))
-    (f .others successorCell (λ q. omega arith) (λ q. omega arith) (λ q. omega arith)) h
-
-pub only-none : {m : Mem} → OnlyChains m m
-only-none = record { others = λ k a b c. refl }
-
-pub only-linked : (m : Mem) (edge to : ℕ) → OnlyChains m (linkedIn m edge to)
+pub only-linked : (m : Mem) (edge to : ℕ) → Only chainCells NoRow m (linkedIn m edge to)
 unfolding linkedIn
 only-linked m edge to =
-    let m₁ : Mem = store m nextEdgeCell (placeOf edge) (word m firstEdgeCell to) in
-    let m₂ : Mem = store m₁ firstEdgeCell to edge in
-    record {
-      others = λ k a b c. cell-kept m₂ predecessorCountCell to (word m predecessorCountCell to + 1) k b
-          ∙ cell-kept m₁ firstEdgeCell to edge k a ∙ cell-kept m nextEdgeCell (placeOf edge) (word m firstEdgeCell to) k c;
-    }
-
-pub only-cleared : {y : Layout} {m m′ : Mem} → Cleared y predecessorCountCell m m′ → OnlyChains m m′
-only-cleared c = record { others = λ k a b d. c .others k b }
+    only-then (only-store chainCells nextEdgeCell (placeOf edge) (word m firstEdgeCell to) (omega arith) refl refl)
+    (only-then (only-store chainCells firstEdgeCell to edge (omega arith) refl refl)
+    (only-store chainCells predecessorCountCell to (word m predecessorCountCell to + 1) (omega arith) refl refl))
 
 -- ---- the three stores
 module _ (m m₁ m₂ : Mem) (edge first to : ℕ) where
   -- the first two leave the counts alone
-  pub count-still : m₁ ≡ store m nextEdgeCell (placeOf edge) first → m₂ ≡ store m₁ firstEdgeCell to edge → (b : ℕ)
+  pub count-still : m₁ ≡ storeNext m edge first → m₂ ≡ store m₁ firstEdgeCell to edge → (b : ℕ)
       → word m₂ predecessorCountCell b ≡ word m predecessorCountCell b
   count-still e₁ e₂ b =
-      same-word b
-      (ap (λ (x : Mem). cell x predecessorCountCell) e₂ ∙ cell-kept m₁ firstEdgeCell to edge _ (λ q. omega arith))
-      ∙ same-word b
-      (ap (λ (x : Mem). cell x predecessorCountCell) e₁ ∙ cell-kept m nextEdgeCell (placeOf edge) first _ (λ q. omega arith))
+      ap (λ (x : Mem). word x predecessorCountCell b) e₂
+      ∙ word-store-other m₁ firstEdgeCell to edge predecessorCountCell b (λ q. absurd (omega arith))
+      ∙ ap (λ (x : Mem). word x predecessorCountCell b) e₁
+      ∙ word-store-other m nextEdgeCell (placeOf edge) first predecessorCountCell b (λ q. absurd (omega arith))
 
-  pub linked-from : {m₃ : Mem} {count : ℕ} → first ≡ word m firstEdgeCell to → m₁ ≡ store m nextEdgeCell (placeOf edge) first
+  pub linked-from : {m₃ : Mem} {count : ℕ} → first ≡ word m firstEdgeCell to → m₁ ≡ storeNext m edge first
       → m₂ ≡ store m₁ firstEdgeCell to edge → count ≡ word m₂ predecessorCountCell to → m₃ ≡ store m₂ predecessorCountCell to (count + 1)
       → m₃ ≡ linkedIn m edge to
   unfolding linkedIn
   linked-from {count = count} f e₁ e₂ n e₃ =
       e₃ ∙ ap₂ (λ (x : Mem) (v : ℕ). store x predecessorCountCell to (v + 1)) (e₂ ∙ ap (λ (x : Mem). store x firstEdgeCell to edge)
-      (e₁ ∙ ap (λ (v : ℕ). store m nextEdgeCell (placeOf edge) v) f)) (n ∙ count-still e₁ e₂ to)
+      (e₁ ∙ ap (storeNext m edge) f)) (n ∙ count-still e₁ e₂ to)
 
 -- ---- lists of numbers from n on
 all-from-less : (l n : ℕ) (es : List ℕ) → l ≤ n → AllFrom n es → AllFrom l es
@@ -262,18 +247,9 @@ module _ (next : ℕ → List ℕ) {y : Layout} {block : ℕ} (lt : block < y .b
       whole b = let e : y .blocks - block ≡ suc (y .blocks - suc block) = omega arith in
           ap (λ (n : ℕ). predecessorsFrom b block (tabulate block n next)) e
 
--- the count of the block's edges is still the graph's, and the next edge leads to a block
-pub partly-few : {m m′ : Mem} (block : ℕ) {k : ℕ} → OnlyChains m m′ → k ≤ word m successorCountCell block → k ≤ word m′ successorCountCell block
-partly-few {m} {m′} block f h =
-    omega (arith, same-word block (f .others successorCountCell (λ q. omega arith) (λ q. omega arith) (λ q. omega arith)))
-
-pub partly-to : (next : ℕ → List ℕ) {y : Layout} {block : ℕ} → block < y .blocks → {m m′ : Mem} → Holds next y m → (k : ℕ) → 0 < k
-    → k ≤ word m successorCountCell block → OnlyChains m m′ → {to : ℕ} → to ≡ successorAt m′ block (k - 1) → to < y .blocks
-partly-to next {block = block} lt {m} {m′} h k pos le f e =
-    rw (e, only-holds f h .stored block (k - 1) lt few) (h .below block (k - 1) lt few)
-  where
-    few : k - 1 < length (next block)
-    few = omega (arith, h .counted block lt)
+-- the count of the block's edges is still the graph's
+pub count-stays : {m m′ : Mem} (block : ℕ) → Only chainCells NoRow m m′ → word m′ successorCountCell block ≡ word m successorCountCell block
+count-stays block f = same-word block (f .named successorCountCell refl)
 
 -- ---- no block yet, and all
 module _ (next : ℕ → List ℕ) {y : Layout} {m m′ : Mem} where

@@ -1,19 +1,21 @@
 -- Words as marks, what the words of a graph hold stays where its two cells stay, and what a cleared cell holds. Assumes nothing.
 use mathlib.Core.Path.{_≡_, refl, sym, ap, _∙_}
 use mathlib.Core.Bool.{Bool, true, false}
-use mathlib.Core.Logic.{_≢_}
-use mathlib.Core.List.{List}
-use Prim.Native.Nat.{ℕ, zero, suc, _+_, _*_, _≤_, _<_}
+use mathlib.Core.List.{List, [], _∷_}
+use Prim.Native.Nat.{ℕ, zero, suc, _*_, _≤_, _<_}
 use native.Mathlib.Omega.{arith}
 use native.Mathlib.Decide.{ℕ-discrete}
 use lib.ListN.{length, getD, set, replicate, getD-replicate}
+use Rattle.dataflow.specs.Lists.{elem, every}
 use Rattle.memory.specs.Cells.{Mem, cell, word, store, storeCell}
-use Rattle.memory.specs.Names.{flag, successorCell, successorCountCell}
-use Rattle.memory.specs.Scratch.{scratchWidths}
+use Rattle.memory.specs.Frame.{spared, Only, NoRow}
+use Rattle.memory.specs.Names.{firstRow, flag, successorCell, successorCountCell}
+use Rattle.memory.specs.Scratch.{scratchWidths, BlockCell}
 use Rattle.memory.specs.declared.layout.Layout.{Layout}
 use Rattle.memory.specs.Edges.{successorAt}
 use Rattle.memory.proofs.EdgeLaws.{successor-kept}
-use Rattle.memory.proofs.CellLaws.{Sized, same-word, word-cell-same, cell-store-other}
+use Rattle.memory.proofs.CellLaws.{Sized, same-word, word-cell-same}
+use Rattle.memory.proofs.FrameLaws.{only-cell, only-more}
 use Rattle.memory.proofs.ScratchLaws.{sized-among, width-blocks}
 use Rattle.edges.specs.Edges.{edgesBefore, marked, Holds, Cleared}
 
@@ -43,9 +45,10 @@ flag-few false = omega arith
 
 -- ---- what stays
 
--- a store into a word leaves each other cell alone
-pub cell-kept : (m : Mem) (k i v j : ℕ) → j ≢ k → cell (store m k i v) j ≡ cell m j
-cell-kept m k i v j ne = cell-store-other m k (set (cell m k) i v) j ne
+-- a store into a word of one of these cells; that it is one of them computes, so it is shown by `refl`
+pub only-store : {m m′ : Mem} (cs : List ℕ) (c i v : ℕ) → c < firstRow → every (λ d. elem d cs) (c ∷ []) ≡ true → m′ ≡ store m c i v
+    → Only cs NoRow m m′
+only-store {m = m} cs c i v h e q = only-more cs NoRow e (λ k g r. r) (only-cell c (set (cell m c) i v) h q)
 
 -- the graph's two cells alone say which graph is held
 pub holds-kept : {next : ℕ → List ℕ} {y : Layout} {m m′ : Mem} → cell m′ successorCountCell ≡ cell m successorCountCell
@@ -57,6 +60,11 @@ holds-kept {m = m} {m′ = m′} e f h = record {
   few = h .few;
   below = h .below;
 }
+
+-- so a step that spares them leaves it held
+pub holds-only : {next : ℕ → List ℕ} {y : Layout} {cs : List ℕ} {rows : ℕ → Type 0} {m m′ : Mem} → Only cs rows m m′
+    → spared cs successorCountCell ≡ true → spared cs successorCell ≡ true → Holds next y m → Holds next y m′
+holds-only o a b h = holds-kept (o .named successorCountCell a) (o .named successorCell b) h
 
 -- at most two a block
 pub edges-two : (next : ℕ → List ℕ) (n : ℕ) → ((b : ℕ) → length (next b) ≤ 2) → edgesBefore next n ≤ 2 * n
@@ -81,10 +89,14 @@ successor-there {next} h b k lt kt =
 
 -- ---- a cell that is cleared
 
-pub cleared-cell : (y : Layout) (k : ℕ) (m m′ : Mem) → Sized (scratchWidths y) m → 4 ≤ k → k < 16
+pub cleared-cell : (y : Layout) (k : ℕ) (m m′ : Mem) → Sized (scratchWidths y) m → BlockCell k
     → m′ ≡ storeCell m k (replicate (getD (scratchWidths y) k 0) 0) → Cleared y k m m′
-cleared-cell y k m m′ z a b e = record {
+cleared-cell y k m m′ z b e = record {
   zeros = λ i lt. ap (λ (w : Mem). word w k i) e ∙ word-cell-same m k _ i (sized-among y z (omega arith))
-      ∙ getD-replicate (getD (scratchWidths y) k 0) i 0 0 (omega (arith, width-blocks y k a b));
-  others = λ j ne. ap (λ (w : Mem). cell w j) e ∙ cell-store-other m k _ j ne;
+      ∙ getD-replicate (getD (scratchWidths y) k 0) i 0 0 (omega (arith, width-blocks y k (b .low) (b .high)));
+  only = only-cell k _ (omega arith) e;
 }
+
+-- among the cells that may change
+pub cleared-only : {y : Layout} {k : ℕ} {m m′ : Mem} (cs : List ℕ) → every (λ d. elem d cs) (k ∷ []) ≡ true → Cleared y k m m′ → Only cs NoRow m m′
+cleared-only cs e c = only-more cs NoRow e (λ k g r. r) (c .only)

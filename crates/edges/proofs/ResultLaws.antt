@@ -2,7 +2,7 @@
 use mathlib.Core.Path.{_≡_, refl, sym, ap, ap₂, _∙_, subst}
 use mathlib.Core.Bool.{Bool, true, false}
 use mathlib.Core.List.{List, [], _∷_, map}
-use Prim.Native.Nat.{ℕ, zero, suc, _+_, _*_, _/_, _≤_, _<_}
+use Prim.Native.Nat.{ℕ, zero, suc, _+_, _≤_, _<_}
 use native.Mathlib.Omega.{arith}
 use lib.Dec.{eqb}
 use lib.ListN.{length, length-map}
@@ -15,22 +15,21 @@ use Rattle.memory.proofs.CellLaws.{same-word}
 use Rattle.budget.specs.declared.FlowBudget.{FlowBudget}
 use Rattle.budget.specs.declared.Limits.{Limits}
 use Rattle.budget.specs.declared.Charged.{Charged}
-use Rattle.memory.specs.Edges.{sourceOf, placeOf}
+use Rattle.memory.specs.Edges.{sourceOf, placeOf, nextEdge, chainFrom, edgesInto}
 use Rattle.memory.specs.Scratch.{edgeWords}
 use Rattle.edges.specs.Edges.{edgesBefore, Holds}
 use Rattle.bitset.specs.Below.{AllBelow}
-use Rattle.edges.specs.Predecessors.{chainFrom, edgesInto, Chained, Linked}
+use Rattle.edges.specs.Predecessors.{Chained, Linked}
 use Rattle.edges.specs.Reachability.{Reached}
-use Rattle.edges.proofs.ChainLaws.{only-holds}
-use Rattle.edges.proofs.StackLaws.{search-holds}
+use Rattle.edges.proofs.EdgeLaws.{holds-only}
 
 -- ---- the graph stays held
 pub linked-holds : {next : ℕ → List ℕ} {y : Layout} {m m′ : Mem} → Linked y m m′ → Holds next y m → Holds next y m′
-linked-holds f h = only-holds (record { others = f .others }) h
+linked-holds f h = holds-only (f .only) refl refl h
 
 pub reached-holds : {next : ℕ → List ℕ} {y : Layout} {l : Limits} {b : FlowBudget} {m m′ : Mem} {r : Charged} → Reached y l b m m′ r → Holds next y m
     → Holds next y m′
-reached-holds f h = search-holds (record { others = f .others }) h
+reached-holds f h = holds-only (f .only) refl refl h
 
 -- ---- the chains stay where their three cells stay
 module _ (m m′ : Mem) (first : cell m′ firstEdgeCell ≡ cell m firstEdgeCell) (count : cell m′ predecessorCountCell ≡ cell m predecessorCountCell)
@@ -38,7 +37,7 @@ module _ (m m′ : Mem) (first : cell m′ firstEdgeCell ≡ cell m firstEdgeCel
   chain-kept : (n e : ℕ) → chainFrom m′ n e ≡ chainFrom m n e
   chain-kept zero e = refl
   chain-kept (suc n) e =
-      ap (λ (es : List ℕ). e ∷ es) (ap (chainFrom m′ n) (same-word (placeOf e) links) ∙ chain-kept n (word m nextEdgeCell (placeOf e)))
+      ap (λ (es : List ℕ). e ∷ es) (ap (chainFrom m′ n) (same-word (placeOf e) links) ∙ chain-kept n (nextEdge m e))
 
   pub edges-kept : (b : ℕ) → edgesInto m′ b ≡ edgesInto m b
   edges-kept b =
@@ -54,13 +53,12 @@ module _ (m m′ : Mem) (first : cell m′ firstEdgeCell ≡ cell m firstEdgeCel
 pub reached-chained : {next : ℕ → List ℕ} {y : Layout} {l : Limits} {b : FlowBudget} {m m′ : Mem} {r : Charged} → Reached y l b m m′ r
     → Chained next y m → Chained next y m′
 reached-chained {m = m} {m′ = m′} f c =
-    chained-kept m m′ (f .others firstEdgeCell (λ q. omega arith) (λ q. omega arith))
-    (f .others predecessorCountCell (λ q. omega arith) (λ q. omega arith)) (f .others nextEdgeCell (λ q. omega arith) (λ q. omega arith)) c
+    chained-kept m m′ (f .only .named firstEdgeCell refl) (f .only .named predecessorCountCell refl) (f .only .named nextEdgeCell refl) c
 
 -- ---- how long a chain is
 pub chain-length : (m : Mem) (n e : ℕ) → length (chainFrom m n e) ≡ n
 chain-length m zero e = refl
-chain-length m (suc n) e = ap suc (chain-length m n (word m nextEdgeCell (placeOf e)))
+chain-length m (suc n) e = ap suc (chain-length m n (nextEdge m e))
 
 edges-few : (b c : ℕ) (l rest : List ℕ) → length (edgesTo b c l rest) ≤ length l + length rest
 edges-few b c [] rest = omega arith

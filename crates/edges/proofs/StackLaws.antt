@@ -11,36 +11,22 @@ use lib.Seq.{getD-set-same, getD-set-other}
 use Rattle.dataflow.specs.Search.{Sweep, unvisited, add}
 use Rattle.dataflow.proofs.Lists.{getD-same}
 use Rattle.dataflow.proofs.Reachability.{unvisited-set, unvisited-all}
-use Rattle.memory.specs.Cells.{Mem, cell, word, store}
-use Rattle.memory.specs.Names.{flag, reachableCell, stackBlockCell, successorCell, successorCountCell}
+use Rattle.memory.specs.Cells.{Mem, word, store}
+use Rattle.memory.specs.Frame.{Only, NoRow}
+use Rattle.memory.specs.Names.{flag, reachableCell, stackBlockCell}
 use Rattle.memory.specs.Scratch.{scratchWidths}
 use Rattle.memory.specs.declared.layout.Layout.{Layout}
 use Rattle.memory.proofs.CellLaws.{Sized, sized-store, word-store-other}
 use Rattle.memory.proofs.ScratchLaws.{word-put, place-blocks}
-use Rattle.edges.specs.Edges.{Holds, Cleared}
-use Rattle.edges.specs.Stack.{stackOf, Sweeps, Begun, OnlySearch}
-use Rattle.edges.proofs.EdgeLaws.{flag-yes, flag-no, cell-kept, holds-kept}
+use Rattle.memory.proofs.FrameLaws.{only-then}
+use Rattle.edges.specs.Reachability.{sweepCells}
+use Rattle.edges.specs.Stack.{stackOf, Sweeps, Begun}
+use Rattle.edges.proofs.EdgeLaws.{flag-yes, flag-no, only-store}
 
--- ---- only the two cells of the search change
-pub search-none : {m : Mem} → OnlySearch m m
-search-none = record { others = λ k a b. refl }
-
-pub search-more : {m m′ m″ : Mem} → OnlySearch m m′ → OnlySearch m′ m″ → OnlySearch m m″
-search-more f g = record { others = λ k a b. g .others k a b ∙ f .others k a b }
-
-pub search-holds : {next : ℕ → List ℕ} {y : Layout} {m m′ : Mem} → OnlySearch m m′ → Holds next y m → Holds next y m′
-search-holds f h =
-    holds-kept (f .others successorCountCell (λ q. omega arith) (λ q. omega arith)) (f .others successorCell (λ q. omega arith) (λ q. omega arith)) h
-
-pub search-cleared : {y : Layout} {m m′ : Mem} → Cleared y reachableCell m m′ → OnlySearch m m′
-search-cleared c = record { others = λ k a b. c .others k a }
-
--- a mark, then a block on the stack
-pub search-stored : (m m₁ m₂ : Mem) (i v j w : ℕ) → m₁ ≡ store m reachableCell i v → m₂ ≡ store m₁ stackBlockCell j w → OnlySearch m m₂
-search-stored m m₁ m₂ i v j w e₁ e₂ = record {
-  others = λ k a b. ap (λ (x : Mem). cell x k) e₂ ∙ cell-kept m₁ stackBlockCell j w k b ∙ ap (λ (x : Mem). cell x k) e₁
-      ∙ cell-kept m reachableCell i v k a;
-}
+-- ---- a mark, then a block on the stack
+pub search-stored : {m m₁ m₂ : Mem} (i v j w : ℕ) → m₁ ≡ store m reachableCell i v → m₂ ≡ store m₁ stackBlockCell j w → Only sweepCells NoRow m m₂
+search-stored i v j w e₁ e₂ =
+    only-then (only-store sweepCells reachableCell i v (omega arith) refl e₁) (only-store sweepCells stackBlockCell j w (omega arith) refl e₂)
 
 -- ---- the stack
 stack-same : (m m′ : Mem) (n : ℕ) → ((i : ℕ) → i < n → word m′ stackBlockCell i ≡ word m stackBlockCell i) → stackOf m′ n ≡ stackOf m n

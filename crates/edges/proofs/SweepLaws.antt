@@ -2,7 +2,7 @@
 use mathlib.Core.Path.{_≡_, refl, sym, ap, _∙_, subst}
 use mathlib.Core.Bool.{false}
 use mathlib.Core.List.{List, [], _∷_, map}
-use Prim.Native.Nat.{ℕ, zero, suc, _+_, _-_, _*_, _≤_, _<_}
+use Prim.Native.Nat.{ℕ, zero, suc, _+_, _-_, _≤_, _<_}
 use native.Mathlib.Numerals.{add-one}
 use native.Mathlib.Omega.{arith}
 use lib.ListN.{length, getD, drop, replicate, drop-of-length-le}
@@ -24,9 +24,11 @@ use Rattle.edges.specs.declared.reachability.Pushed.{Pushed}
 use Rattle.edges.specs.declared.reachability.Pushed.the-variants as pushed
 use Rattle.edges.specs.Edges.{Holds}
 use Rattle.bitset.specs.Below.{AllBelow}
-use Rattle.edges.specs.Reachability.{sweptFrom, sweepCharges, Reached}
-use Rattle.edges.specs.Stack.{chargedOf, stackOf, Sweeps, Begun, OnlySearch, Entered, Advanced}
-use Rattle.edges.proofs.StackLaws.{search-holds}
+use Rattle.memory.specs.Frame.{Only, NoRow}
+use Rattle.memory.proofs.FrameLaws.{only-then}
+use Rattle.edges.specs.Reachability.{sweptFrom, sweepCharges, sweepCells, Reached}
+use Rattle.edges.specs.Stack.{chargedOf, stackOf, Sweeps, Begun, Entered, Advanced}
+use Rattle.edges.proofs.EdgeLaws.{holds-only}
 
 -- ---- the successors of a block, k of which have been added to r
 pub record Adding (next : ℕ → List ℕ) (y : Layout) (block k top : ℕ) (r : Sweep) (m : Mem) : Type 0 where
@@ -57,17 +59,17 @@ module _ {next : ℕ → List ℕ} {y : Layout} {block top : ℕ} {r : Sweep} {m
       (sym (ap (λ (cs : List ℕ). addAll next cs (a .at)) (drop-of-length-le (next block) {i = k} h)) ∙ a .here) (a .sweeps)
 
 -- the next successor is a block
-pub successor-at : {next : ℕ → List ℕ} {y : Layout} {block n k to : ℕ} {m m′ : Mem} → block < y .blocks → Holds next y m → OnlySearch m m′
+pub successor-at : {next : ℕ → List ℕ} {y : Layout} {block n k to : ℕ} {m m′ : Mem} → block < y .blocks → Holds next y m → Only sweepCells NoRow m m′
     → n ≡ word m successorCountCell block → k < n → to ≡ successorAt m′ block k
     → (k < length (next block)) × (to ≡ getD (next block) k 0) × (to < y .blocks)
 successor-at {next} {block = block} {k = k} lt h f en less e =
     let few : k < length (next block) = omega (arith, h .counted block lt) in
-    let is = e ∙ search-holds f h .stored block k lt few in
+    let is = e ∙ holds-only f refl refl h .stored block k lt few in
     (few, is, rw is (h .below block k lt few))
 
 -- ---- the answer of the successors
 module _ {y : Layout} {l : Limits} {b left : FlowBudget} {block top k n : ℕ} {m m′ : Mem} (lt : block < y .blocks)
-    (en : n ≡ word m successorCountCell block) (paid : charged l b (replicate k 1) ≡ Ok left) (only : OnlySearch m m′) where
+    (en : n ≡ word m successorCountCell block) (paid : charged l b (replicate k 1) ≡ Ok left) (only : Only sweepCells NoRow m m′) where
   -- a charge crossed the limit
   pub advanced-over : k < n → {c : Charged} {x : FlowBudget} {p : Pushed} → c ≡ charged l left (1 ∷ []) → c ≡ Over x → p ≡ pushed.Over (budgetOf c)
       → Advanced y l b block top m m′ p
@@ -228,28 +230,28 @@ module _ {next : ℕ → List ℕ} {y : Layout} {l : Limits} {b : FlowBudget} {n
   swept-out z = sym (ap (λ (i : ℕ). sweep next i (s .at)) z) ∙ s .here
 
 -- ---- what the words before the search began hold
-pub reached-from : {y : Layout} {l : Limits} {b : FlowBudget} {m m₁ m′ : Mem} {r : Charged} → OnlySearch m m₁ → Reached y l b m₁ m′ r
+pub reached-from : {y : Layout} {l : Limits} {b : FlowBudget} {m m₁ m′ : Mem} {r : Charged} → Only sweepCells NoRow m m₁ → Reached y l b m₁ m′ r
     → Reached y l b m m′ r
 reached-from f r = record {
-  charges = λ next h. r .charges next (search-holds f h);
-  marks = λ next h. r .marks next (search-holds f h);
-  others = λ k a c. r .others k a c ∙ f .others k a c;
+  charges = λ next h. r .charges next (holds-only f refl refl h);
+  marks = λ next h. r .marks next (holds-only f refl refl h);
+  only = only-then f (r .only);
 }
 
 -- ---- the two ways out
-module _ {y : Layout} {l : Limits} {b left : FlowBudget} {n top : ℕ} {m m′ : Mem} (only : OnlySearch m m′) where
+module _ {y : Layout} {l : Limits} {b left : FlowBudget} {n top : ℕ} {m m′ : Mem} (only : Only sweepCells NoRow m m′) where
   pub reached-end : ((next : ℕ → List ℕ) → Holds next y m → Swept next y l b n top left m′)
       → ((next : ℕ → List ℕ) (s : Swept next y l b n top left m′) → s .at ≡ sweptFrom next (y .blocks)) → Reached y l b m m′ (Ok left)
   reached-end s e = record {
     charges = λ next h. ended-charges (s next h) (e next (s next h));
     marks = λ next h left′ q. ended-marks (s next h) (e next (s next h));
-    others = only .others;
+    only = only;
   }
 
-pub reached-over : {y : Layout} {l : Limits} {b x : FlowBudget} {m m′ : Mem} {r : Charged} → OnlySearch m m′
+pub reached-over : {y : Layout} {l : Limits} {b x : FlowBudget} {m m′ : Mem} {r : Charged} → Only sweepCells NoRow m m′
     → ((next : ℕ → List ℕ) → Holds next y m → charged l b (sweepCharges next (y .blocks)) ≡ Over x) → r ≡ Over x → Reached y l b m m′ r
 reached-over only f e = record {
   charges = λ next h. e ∙ sym (f next h);
   marks = λ next h left q. let z : _≡_ {A = ℕ} 0 1 = cc in absurd (omega arith);
-  others = only .others;
+  only = only;
 }

@@ -4,28 +4,24 @@ use mathlib.Core.List.{List, [], _∷_, map}
 use Prim.Native.Nat.{ℕ, suc, _+_, _-_, _≤_, _<_}
 use Rattle.dataflow.specs.Lists.{tabulate}
 use Rattle.dataflow.specs.Results.{predecessorsFrom}
-use Rattle.memory.specs.Cells.{Mem, cell, word, store}
-use Rattle.memory.specs.Names.{firstEdgeCell, nextEdgeCell, predecessorCountCell}
+use Rattle.memory.specs.Cells.{Mem, word, store}
+use Rattle.memory.specs.Names.{firstEdgeCell, predecessorCountCell}
 use Rattle.memory.specs.declared.layout.Layout.{Layout}
-use Rattle.memory.specs.Edges.{sourceOf, placeOf}
+use Rattle.memory.specs.Edges.{sourceOf, placeOf, storeNext, edgesInto}
+use Rattle.memory.specs.Frame.{Only, NoRow}
 use Rattle.memory.specs.Scratch.{edgeWords}
 use Rattle.edges.specs.Edges.{edgesBefore, Holds}
 use Rattle.bitset.specs.Below.{AllBelow}
-use Rattle.edges.specs.Predecessors.{edgesInto}
+use Rattle.edges.specs.Predecessors.{chainCells}
 
 -- the words after an edge was put before the chain of the block that it leads to
 unfoldable pub linkedIn : Mem → ℕ → ℕ → Mem
 linkedIn m edge to =
-    store (store (store m nextEdgeCell (placeOf edge) (word m firstEdgeCell to)) firstEdgeCell to edge) predecessorCountCell to
-    (word m predecessorCountCell to + 1)
+    store (store (storeNext m edge (word m firstEdgeCell to)) firstEdgeCell to edge) predecessorCountCell to (word m predecessorCountCell to + 1)
 
 -- the count of a block is below the number of edges that there can be
 abbrev pub RoomToCount : Layout → ℕ → Mem → Type 0
 RoomToCount y to m = word m predecessorCountCell to < edgeWords y
-
--- no more than the three cells of the chains changed
-pub record OnlyChains (m m′ : Mem) : Type 0 where
-  pub others : (k : ℕ) → (k ≡ firstEdgeCell → ⊥) → (k ≡ predecessorCountCell → ⊥) → (k ≡ nextEdgeCell → ⊥) → cell m′ k ≡ cell m k
 
 -- each of the numbers is at least n
 abbrev pub AllFrom : ℕ → List ℕ → Type 0
@@ -55,4 +51,4 @@ Linking y block low m = (next : ℕ → List ℕ) × Holds next y m × ChainedSi
 -- the edges of `block` are put before those of the blocks behind it, for whatever graph the words hold
 pub record Chaining (y : Layout) (block low : ℕ) (m m′ : Mem) (low′ : ℕ) : Type 0 where
   pub chains : (next : ℕ → List ℕ) → Holds next y m → ChainedSince next y (suc block) low m → ChainedSince next y block low′ m′
-  pub only : OnlyChains m m′
+  pub only : Only chainCells NoRow m m′

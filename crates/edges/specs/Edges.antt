@@ -1,12 +1,13 @@
 -- A graph of blocks in the words of scratch: how many successors each block has, and which.
 use mathlib.Core.Path.{_≡_}
 use mathlib.Core.Bool.{Bool, true, false}
-use mathlib.Core.List.{List}
+use mathlib.Core.List.{List, [], _∷_}
 use Prim.Native.Nat.{ℕ, zero, suc, _+_, _≤_, _<_}
 use lib.ListN.{length, getD}
-use Rattle.memory.specs.Cells.{Mem, cell, word}
+use Rattle.memory.specs.Cells.{Mem, word}
 use Rattle.memory.specs.Names.{successorCountCell}
 use Rattle.memory.specs.Edges.{successorAt}
+use Rattle.memory.specs.Frame.{Only, NoRow}
 use Rattle.memory.specs.Scratch.{edgeWords}
 use Rattle.memory.specs.declared.layout.Layout.{Layout}
 
@@ -32,7 +33,7 @@ pub record Holds (next : ℕ → List ℕ) (y : Layout) (m : Mem) : Type 0 where
 abbrev pub Held : Layout → Mem → Type 0
 Held y m = (next : ℕ → List ℕ) × Holds next y m
 
--- each word of cell k, of a word a block, became 0; no other cell changed
+-- each word of cell k, which has a word a block, became 0; no other cell changed
 pub record Cleared (y : Layout) (k : ℕ) (m m′ : Mem) : Type 0 where
   pub zeros : (b : ℕ) → b < y .blocks → word m′ k b ≡ 0
-  pub others : (j : ℕ) → (j ≡ k → ⊥) → cell m′ j ≡ cell m j
+  pub only : Only (k ∷ []) NoRow m m′

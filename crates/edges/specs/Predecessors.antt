@@ -1,25 +1,17 @@
 -- The predecessors of a block as a chain of edges.
 use mathlib.Core.Path.{_≡_}
 use mathlib.Core.List.{List, [], _∷_, map}
-use Prim.Native.Nat.{ℕ, zero, suc, _<_}
+use Prim.Native.Nat.{ℕ, _<_}
 use Rattle.dataflow.specs.Lists.{tabulate}
 use Rattle.dataflow.specs.Results.{predecessorsFrom}
-use Rattle.memory.specs.Cells.{Mem, cell, word}
+use Rattle.memory.specs.Cells.{Mem}
 use Rattle.memory.specs.Names.{firstEdgeCell, nextEdgeCell, predecessorCountCell}
 use Rattle.memory.specs.declared.layout.Layout.{Layout}
-use Rattle.memory.specs.Edges.{sourceOf, placeOf}
+use Rattle.memory.specs.Edges.{sourceOf, placeOf, edgesInto}
+use Rattle.memory.specs.Frame.{Only, NoRow}
 use Rattle.memory.specs.Scratch.{edgeWords}
 use Rattle.edges.specs.Edges.{Holds}
 use Rattle.bitset.specs.Below.{AllBelow}
-
--- n edges of a chain, from edge e on
-abbrev pub chainFrom : Mem → ℕ → ℕ → List ℕ
-chainFrom m zero e = []
-chainFrom m (suc n) e = e ∷ chainFrom m n (word m nextEdgeCell (placeOf e))
-
--- the edges that lead to block b
-abbrev pub edgesInto : Mem → ℕ → List ℕ
-edgesInto m b = chainFrom m (word m predecessorCountCell b) (word m firstEdgeCell b)
 
 -- flow.rs `graph`, the last loop, over blocks 0 to n: the predecessors of b, ascending, a repeat for each edge
 abbrev pub predecessorsOf : (ℕ → List ℕ) → ℕ → ℕ → List ℕ
@@ -30,7 +22,11 @@ pub record Chained (next : ℕ → List ℕ) (y : Layout) (m : Mem) : Type 0 whe
   pub are : (b : ℕ) → b < y .blocks → map sourceOf (edgesInto m b) ≡ predecessorsOf next (y .blocks) b
   pub edges : (b : ℕ) → b < y .blocks → AllBelow (edgeWords y) (map placeOf (edgesInto m b))
 
+-- the cells of the chains
+abbrev pub chainCells : List ℕ
+chainCells = firstEdgeCell ∷ predecessorCountCell ∷ nextEdgeCell ∷ []
+
 -- what `predecessors` does: it changes three cells, and then they hold the predecessors of whatever graph the words hold
 pub record Linked (y : Layout) (m m′ : Mem) : Type 0 where
   pub chained : (next : ℕ → List ℕ) → Holds next y m → Chained next y m′
-  pub others : (k : ℕ) → (k ≡ firstEdgeCell → ⊥) → (k ≡ predecessorCountCell → ⊥) → (k ≡ nextEdgeCell → ⊥) → cell m′ k ≡ cell m k
+  pub only : Only chainCells NoRow m m′

@@ -1,12 +1,13 @@
 -- The stack search of flow.rs `reachability`, over the words of scratch.
 use mathlib.Core.Path.{_≡_}
 use mathlib.Core.Bool.{false}
-use mathlib.Core.List.{List, map}
+use mathlib.Core.List.{List, [], _∷_, map}
 use Prim.Native.Nat.{ℕ, _<_}
 use lib.ListN.{length, getD, replicate}
 use Rattle.dataflow.specs.Lists.{sum}
 use Rattle.dataflow.specs.Search.{Sweep, sweep, sweepFrom}
-use Rattle.memory.specs.Cells.{Mem, cell, word}
+use Rattle.memory.specs.Cells.{Mem, word}
+use Rattle.memory.specs.Frame.{Only, NoRow}
 use Rattle.memory.specs.Names.{flag, reachableCell, stackBlockCell}
 use Rattle.memory.specs.declared.layout.Layout.{Layout}
 use Rattle.budget.specs.declared.FlowBudget.{FlowBudget}
@@ -24,10 +25,14 @@ sweptFrom next n = sweep next n (sweepFrom next n 0)
 abbrev pub sweepCharges : (ℕ → List ℕ) → ℕ → List ℕ
 sweepCharges next n = replicate (sum (map (λ b. length (next b)) (sweptFrom next n .taken))) 1
 
+-- the cells of the search
+abbrev pub sweepCells : List ℕ
+sweepCells = reachableCell ∷ stackBlockCell ∷ []
+
 -- what `reachability` does, for whatever graph the words hold: its charges, and if they are met, the marks of the blocks that are visited; two
 -- cells change
 pub record Reached (y : Layout) (l : Limits) (b : FlowBudget) (m m′ : Mem) (r : Charged) : Type 0 where
   pub charges : (next : ℕ → List ℕ) → Holds next y m → r ≡ charged l b (sweepCharges next (y .blocks))
   pub marks : (next : ℕ → List ℕ) → Holds next y m → (left : FlowBudget) → r ≡ Ok left
       → (c : ℕ) → c < y .blocks → word m′ reachableCell c ≡ flag (getD (sweptFrom next (y .blocks) .visited) c false)
-  pub others : (k : ℕ) → (k ≡ reachableCell → ⊥) → (k ≡ stackBlockCell → ⊥) → cell m′ k ≡ cell m k
+  pub only : Only sweepCells NoRow m m′

@@ -5,7 +5,8 @@ use mathlib.Core.List.{List, [], _∷_}
 use Prim.Native.Nat.{ℕ, zero, suc, _+_, _≤_, _<_}
 use lib.ListN.{length, getD, replicate}
 use Rattle.dataflow.specs.Search.{Sweep, unvisited, add, addAll, sweepFrom}
-use Rattle.memory.specs.Cells.{Mem, cell, word}
+use Rattle.memory.specs.Cells.{Mem, word}
+use Rattle.memory.specs.Frame.{Only, NoRow}
 use Rattle.memory.specs.Names.{flag, reachableCell, stackBlockCell}
 use Rattle.memory.specs.declared.layout.Layout.{Layout}
 use Rattle.budget.specs.declared.FlowBudget.{FlowBudget}
@@ -16,6 +17,7 @@ use Rattle.budget.specs.Budget.{charged}
 use Rattle.edges.specs.declared.reachability.Pushed.{Pushed}
 use Rattle.edges.specs.declared.reachability.Pushed.the-variants as pushed
 use Rattle.edges.specs.Edges.{Holds}
+use Rattle.edges.specs.Reachability.{sweepCells}
 use Rattle.bitset.specs.Below.{AllBelow}
 
 -- an answer's budget
@@ -49,18 +51,14 @@ Sweeping y top m = (r : Sweep) × Sweeps y top r m
 abbrev pub Begun : Layout → Mem → Type 0
 Begun y m = (next : ℕ → List ℕ) → Sweeps y 1 (sweepFrom next (y .blocks) 0) m
 
--- no more than the two cells of the search changed
-pub record OnlySearch (m m′ : Mem) : Type 0 where
-  pub others : (k : ℕ) → (k ≡ reachableCell → ⊥) → (k ≡ stackBlockCell → ⊥) → cell m′ k ≡ cell m k
-
 -- what `push` does: `block` joins the stack unless it is visited
 pub record Entered (y : Layout) (block top : ℕ) (m m′ : Mem) (top′ : ℕ) : Type 0 where
   pub sweeps : (next : ℕ → List ℕ) (r : Sweep) → Sweeps y top r m → Sweeps y top′ (add next (getD (r .visited) block false) block r) m′
-  pub only : OnlySearch m m′
+  pub only : Only sweepCells NoRow m m′
 
 -- what `push_successors` does, for whatever graph the words hold: one charge for each successor, and if they are met, all successors joined
 pub record Advanced (y : Layout) (l : Limits) (b : FlowBudget) (block top : ℕ) (m m′ : Mem) (p : Pushed) : Type 0 where
   pub charges : (next : ℕ → List ℕ) → Holds next y m → chargedOf p ≡ charged l b (replicate (length (next block)) 1)
   pub sweeps : (next : ℕ → List ℕ) → Holds next y m → (r : Sweep) → Sweeps y top r m → (top′ : ℕ) (left : FlowBudget) → p ≡ pushed.Ok top′ left
       → Sweeps y top′ (addAll next (next block) r) m′
-  pub only : OnlySearch m m′
+  pub only : Only sweepCells NoRow m m′

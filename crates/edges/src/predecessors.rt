@@ -1,6 +1,7 @@
 // The predecessors of each block, as a chain of edges. An edge is named by the block that it leaves and by its place; the word of that place in
 // NEXT_EDGE is the next edge that leads to the same block. Edges are taken from the last, so that each chain ascends, as the source lists them.
 use crate::words;
+use memory::edges;
 use memory::layout;
 use memory::layout::Layout;
 ghost use mathlib.Core.Path.{_≡_};
@@ -20,7 +21,7 @@ pub fn predecessors(s: &mut [u64], y: Layout)
 {
     clear_counts(s, y);
     let mut left = y.blocks;
-    let mut low = 2 * y.blocks + y.extra;
+    let mut low = y.edge_words();
     while 0 < left {
         left -= 1;
         low = chain_successors(s, y, left, low);
@@ -40,12 +41,13 @@ fn chain_successors(s: &mut [u64], y: Layout, block: usize, low: usize) -> usize
     requires { ⌜ Room y (length (now s)) × (block < y .blocks) × Linking y block low (scratch y (now s)) ⌝ }
     ensures { λ r. ⌜ Chaining y block low (scratch y (now (s .entry))) (scratch y (now (s .exit))) r ⌝ }
 {
-    let mut k = memory::scratch::get(s, y, layout::SUCCESSOR_COUNT, block) as usize;
-    let base = low - k;
+    let n = memory::scratch::get(s, y, layout::SUCCESSOR_COUNT, block) as usize;
+    let base = low - n;
+    let mut k = n;
     while 0 < k {
         k -= 1;
-        let to = memory::edges::successor(s, y, block, k) as usize;
-        chain(s, y, block * 4294967296 + (base + k), to);
+        let to = edges::successor(s, y, block, n, k) as usize;
+        chain(s, y, edges::edge(block, base + k) as usize, to);
     }
     base
 }
@@ -56,7 +58,7 @@ fn chain(s: &mut [u64], y: Layout, edge: usize, to: usize)
     ensures { λ _. ⌜ scratch y (now (s .exit)) ≡ linkedIn (scratch y (now (s .entry))) edge to ⌝ }
 {
     let first = memory::scratch::get(s, y, layout::FIRST_EDGE, to);
-    memory::scratch::put(s, y, layout::NEXT_EDGE, edge % 4294967296, first);
+    edges::put_next(s, y, edge, first);
     memory::scratch::put(s, y, layout::FIRST_EDGE, to, edge as u64);
     let count = memory::scratch::get(s, y, layout::PREDECESSOR_COUNT, to);
     memory::scratch::put(s, y, layout::PREDECESSOR_COUNT, to, count + 1);

@@ -86,7 +86,7 @@ fn push_successors(
             return Pushed::Over(c.budget());
         };
         left = b;
-        let to = memory::edges::successor(s, y, block, k) as usize;
+        let to = memory::edges::successor(s, y, block, n, k) as usize;
         high = push(s, y, to, high);
         k += 1;
     }

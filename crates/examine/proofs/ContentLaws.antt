@@ -14,8 +14,9 @@ use Rattle.dataflow.specs.Code.{Instruction}
 use Rattle.dataflow.specs.Results.{initExit, liveEntry, flowGraph, seed}
 use Rattle.dataflow.proofs.FlowGraph.{live-entry-row}
 use Rattle.memory.specs.Cells.{Mem, cells, total, cell}
+use Rattle.memory.specs.Names.{initializedRow, liveRow, awaitEntry}
 use Rattle.memory.specs.declared.layout.Layout.{Layout}
-use Rattle.memory.specs.Sets.{setsWidths, sets, SetsRoom}
+use Rattle.memory.specs.Sets.{setsWidths, sets, SetsRoom, SetsRow}
 use Rattle.memory.proofs.CellLaws.{start, start-past, start-equal}
 use Rattle.memory.proofs.SetsLaws.{sets-length, sets-row-words, await-words}
 use Rattle.fixed_points.specs.FixedPoints.{Sets}
@@ -54,24 +55,24 @@ words-before ns l k = sym (ap flat (first-cells k ns l) ∙ flat-all (take k ns)
 flat-next : (t : Mem) (k n : ℕ) → k < length t → flat (take (suc n) (drop k t)) ≡ cell t k ++ flat (take n (drop (suc k) t))
 flat-next t k n lt = ap (λ (r : Mem). flat (take (suc n) r)) (drop-cons t k [] lt)
 
--- ---- cells in pairs, known by number
+-- ---- the rows of the blocks, in pairs: those of the blocks before block n are the cells before `initializedRow n`
 
-module _ (t : Mem) (blocks : ℕ) (long : 2 * blocks ≤ length t) (f g : ℕ → List ℕ)
-    (first : (c : ℕ) → c < blocks → cell t (2 * c) ≡ f c) (second : (c : ℕ) → c < blocks → cell t (2 * c + 1) ≡ g c) where
-  pairs : (n c : ℕ) → c + n ≤ blocks → flat (take (2 * n) (drop (2 * c) t)) ≡ joined (λ (d : ℕ). f d ++ g d) (range c n)
+module _ (t : Mem) (blocks : ℕ) (long : initializedRow blocks ≤ length t) (f g : ℕ → List ℕ)
+    (first : (c : ℕ) → c < blocks → cell t (initializedRow c) ≡ f c) (second : (c : ℕ) → c < blocks → cell t (liveRow c) ≡ g c) where
+  pairs : (n c : ℕ) → c + n ≤ blocks → flat (take (initializedRow n) (drop (initializedRow c) t)) ≡ joined (λ (d : ℕ). f d ++ g d) (range c n)
   pairs zero c le = refl
   pairs (suc n) c le =
-      ap (λ (k : ℕ). flat (take k (drop (2 * c) t))) (let e : 2 * suc n ≡ suc (suc (2 * n)) = omega arith in e)
-      ∙ flat-next t (2 * c) (suc (2 * n)) (omega arith)
-      ∙ ap (λ (r : List ℕ). cell t (2 * c) ++ r) (flat-next t (suc (2 * c)) (2 * n) (omega arith))
-      ∙ sym (append-assoc (cell t (2 * c)) (cell t (suc (2 * c))) (flat (take (2 * n) (drop (suc (suc (2 * c))) t))))
+      ap (λ (k : ℕ). flat (take k (drop (initializedRow c) t))) (let e : initializedRow (suc n) ≡ suc (suc (initializedRow n)) = omega arith in e)
+      ∙ flat-next t (initializedRow c) (suc (initializedRow n)) (omega arith)
+      ∙ ap (λ (r : List ℕ). cell t (initializedRow c) ++ r) (flat-next t (suc (initializedRow c)) (initializedRow n) (omega arith))
+      ∙ sym (append-assoc (cell t (initializedRow c)) (cell t (suc (initializedRow c))) (flat (take (initializedRow n) (drop (suc (suc (initializedRow c))) t))))
       ∙ ap₂ (λ (p r : List ℕ). p ++ r)
       (ap₂ (λ (p q : List ℕ). p ++ q) (first c (omega arith))
-      (ap (cell t) (let e : suc (2 * c) ≡ 2 * c + 1 = omega arith in e) ∙ second c (omega arith)))
-      (ap (λ (k : ℕ). flat (take (2 * n) (drop k t))) (let e : suc (suc (2 * c)) ≡ 2 * suc c = omega arith in e)
+      (ap (cell t) (let e : suc (initializedRow c) ≡ liveRow c = omega arith in e) ∙ second c (omega arith)))
+      (ap (λ (k : ℕ). flat (take (initializedRow n) (drop k t))) (let e : suc (suc (initializedRow c)) ≡ initializedRow (suc c) = omega arith in e)
       ∙ pairs n (suc c) (omega arith))
 
-  pub pairs-all : flat (take (2 * blocks) t) ≡ joined (λ (d : ℕ). f d ++ g d) (range 0 blocks)
+  pub pairs-all : flat (take (initializedRow blocks) t) ≡ joined (λ (d : ℕ). f d ++ g d) (range 0 blocks)
   pairs-all = pairs blocks 0 (omega arith)
 
 -- ---- the cells of the sets buffer
@@ -80,12 +81,12 @@ module _ (code : List Instruction) (parameter : ℕ → Bool) (y : Layout) (v : 
     (fit : (i : ℕ) → getD v i 0 < 2 ^ 64) where
   -- the rows of a block
   module _ (both : Sets code parameter y (sets y v)) (c : ℕ) (lt : c < y .blocks) where
-    first-row : cell (sets y v) (2 * c) ≡ wordsOf (y .words) (initExit code parameter (y .words) c)
-    first-row = means-words (sets-row-words v room (let h : 2 * c < 2 * y .blocks = omega arith in h) fit) (λ i li. both .initialized c i lt li)
+    first-row : cell (sets y v) (initializedRow c) ≡ wordsOf (y .words) (initExit code parameter (y .words) c)
+    first-row = means-words (sets-row-words v room (let h : SetsRow y (initializedRow c) = omega arith in h) fit) (λ i li. both .initialized c i lt li)
 
-    second-row : cell (sets y v) (2 * c + 1) ≡ wordsOf (y .words) (liveEntry code parameter (y .words) c)
+    second-row : cell (sets y v) (liveRow c) ≡ wordsOf (y .words) (liveEntry code parameter (y .words) c)
     second-row =
-        means-words (sets-row-words v room (let h : 2 * c + 1 < 2 * y .blocks = omega arith in h) fit)
+        means-words (sets-row-words v room (let h : SetsRow y (liveRow c) = omega arith in h) fit)
         (λ i li. both .live c i lt li ∙ sym (live-entry-row (flowGraph code parameter (y .words) liveness) (seed code liveness) c i li))
 
   -- the words of a row behind a number
@@ -93,8 +94,8 @@ module _ (code : List Instruction) (parameter : ℕ → Bool) (y : Layout) (v : 
   tail-words w n row h = record { long = omega (arith, h .long); fits = λ k. h .fits (suc k) }
 
   -- the entry of an await
-  entry-is : (k : ℕ) (p : Point) → k < y .awaits → Entry (y .words) (cell (sets y v) (2 * y .blocks + k)) p
-      → cell (sets y v) (2 * y .blocks + k) ≡ awaitWords code parameter (y .words) p
+  entry-is : (k : ℕ) (p : Point) → k < y .awaits → Entry (y .words) (cell (sets y v) (awaitEntry (y .blocks) k)) p
+      → cell (sets y v) (awaitEntry (y .blocks) k) ≡ awaitWords code parameter (y .words) p
   entry-is k p lt (row, e, h) =
       e
       ∙ ap (λ (ws : List ℕ). p .instruction ∷ ws)
@@ -103,21 +104,21 @@ module _ (code : List Instruction) (parameter : ℕ → Bool) (y : Layout) (v : 
 
   -- entries of awaits, one after the other
   entries-are : (ps : List Point) (k : ℕ) → k + length ps ≤ y .awaits → Entries y (sets y v) k ps
-      → flat (take (length ps) (drop (2 * y .blocks + k) (sets y v))) ≡ joined (awaitWords code parameter (y .words)) ps
+      → flat (take (length ps) (drop (awaitEntry (y .blocks) k) (sets y v))) ≡ joined (awaitWords code parameter (y .words)) ps
   entries-are [] k le h = refl
   entries-are (p ∷ ps) k le (h, hs) =
-      flat-next (sets y v) (2 * y .blocks + k) (length ps) (omega (arith, sets-length y v))
+      flat-next (sets y v) (awaitEntry (y .blocks) k) (length ps) (omega (arith, sets-length y v))
       ∙ ap₂ (λ (a b : List ℕ). a ++ b) (entry-is k p (omega arith) h)
-      (ap (λ (j : ℕ). flat (take (length ps) (drop j (sets y v)))) (let e : suc (2 * y .blocks + k) ≡ 2 * y .blocks + (k + 1) = omega arith in e)
+      (ap (λ (j : ℕ). flat (take (length ps) (drop j (sets y v)))) (let e : suc (awaitEntry (y .blocks) k) ≡ awaitEntry (y .blocks) (k + 1) = omega arith in e)
       ∙ entries-are ps (k + 1) (omega arith) hs)
 
   -- the words of the blocks and of the awaits
-  answer-start : (n : ℕ) → n ≤ y .awaits → start (setsWidths y) (2 * y .blocks + n) ≡ answerWords y n
+  answer-start : (n : ℕ) → n ≤ y .awaits → start (setsWidths y) (awaitEntry (y .blocks) n) ≡ answerWords y n
   unfolding setsWidths
   answer-start n le =
-      start-past (2 * y .blocks) (y .words) (replicate (y .awaits) (1 + y .words)) (2 * y .blocks + n) (omega arith)
-      ∙ ap (λ (k : ℕ). 2 * y .blocks * y .words + start (replicate (y .awaits) (1 + y .words)) k)
-      (let e : 2 * y .blocks + n - 2 * y .blocks ≡ n = omega arith in e)
+      start-past (initializedRow (y .blocks)) (y .words) (replicate (y .awaits) (1 + y .words)) (awaitEntry (y .blocks) n) (omega arith)
+      ∙ ap (λ (k : ℕ). initializedRow (y .blocks) * y .words + start (replicate (y .awaits) (1 + y .words)) k)
+      (let e : awaitEntry (y .blocks) n - initializedRow (y .blocks) ≡ n = omega arith in e)
       ∙ omega (arith, start-equal (y .awaits) (1 + y .words) n le)
 
   pub content : (ps : List Point) → Sets code parameter y (sets y v) → Entries y (sets y v) 0 ps → length ps ≤ y .awaits
@@ -126,10 +127,10 @@ module _ (code : List Instruction) (parameter : ℕ → Bool) (y : Layout) (v : 
   unfolding sets
   content ps both facts few =
       ap (λ (n : ℕ). take n v) (sym (answer-start (length ps) few))
-      ∙ words-before (setsWidths y) v (2 * y .blocks + length ps)
-      ∙ ap flat (take-add (2 * y .blocks) (length ps) (sets y v))
-      ∙ joined-append (λ (ws : List ℕ). ws) (take (2 * y .blocks) (sets y v)) (take (length ps) (drop (2 * y .blocks) (sets y v)))
+      ∙ words-before (setsWidths y) v (awaitEntry (y .blocks) (length ps))
+      ∙ ap flat (take-add (initializedRow (y .blocks)) (length ps) (sets y v))
+      ∙ joined-append (λ (ws : List ℕ). ws) (take (initializedRow (y .blocks)) (sets y v)) (take (length ps) (drop (initializedRow (y .blocks)) (sets y v)))
       ∙ ap₂ (λ (a b : List ℕ). a ++ b)
       (pairs-all (sets y v) (y .blocks) (omega (arith, sets-length y v)) (λ c. wordsOf (y .words) (initExit code parameter (y .words) c))
       (λ c. wordsOf (y .words) (liveEntry code parameter (y .words) c)) (first-row both) (second-row both))
-      (ap (λ (k : ℕ). flat (take (length ps) (drop k (sets y v)))) (sym (add-zero (2 * y .blocks))) ∙ entries-are ps 0 (omega arith) facts)
+      (ap (λ (k : ℕ). flat (take (length ps) (drop k (sets y v)))) (sym (add-zero (initializedRow (y .blocks)))) ∙ entries-are ps 0 (omega arith) facts)

@@ -33,7 +33,8 @@ use Rattle.bitset.specs.Below.{AllBelow}
 use Rattle.bitset.proofs.Below.{below-mem}
 use Rattle.transfer.specs.declared.direction.Direction.{Direction}
 use Rattle.transfer.specs.declared.direction.Direction.the-variants.{Initialization, Liveness}
-use Rattle.transfer.specs.Neighbors.{readsOf, dependentsOf, neighbors}
+use Rattle.memory.specs.Edges.{neighbors}
+use Rattle.transfer.specs.Directions.{readsOf, dependentsOf}
 use Rattle.transfer.specs.Transfer.{entryOf, transferred}
 use Rattle.propagate.specs.Rounds.{gatherRow, gatherRows, rowSolver}
 use Rattle.edges.specs.Flow.{Flows}

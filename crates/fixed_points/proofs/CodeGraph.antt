@@ -12,7 +12,7 @@ use Rattle.dataflow.specs.Results.{predecessors, swept, reachable}
 use Rattle.dataflow.proofs.CodeBlocks.{successors-below, successors-past, blocks-some}
 use Rattle.dataflow.proofs.Results.{live-sound-graph, seed-sound}
 use Rattle.memory.specs.Cells.{Mem, cell, word}
-use Rattle.memory.specs.Names.{reachableCell, successorCountCell, predecessorCountCell}
+use Rattle.memory.specs.Names.{startCell, reachableCell, successorCountCell, predecessorCountCell, successorCell}
 use Rattle.memory.specs.Scratch.{scratchWidths}
 use Rattle.memory.specs.declared.layout.Layout.{Layout}
 use Rattle.memory.proofs.CellLaws.{Sized}
@@ -21,10 +21,10 @@ use Rattle.edges.specs.Edges.{marked}
 use Rattle.edges.specs.Predecessors.{predecessorsOf}
 use Rattle.transfer.specs.declared.direction.Direction.{Direction}
 use Rattle.transfer.specs.declared.direction.Direction.the-variants.{Initialization, Liveness}
-use Rattle.transfer.specs.declared.direction.Side.{Side}
-use Rattle.transfer.specs.declared.direction.Side.the-variants.{Successors, Predecessors}
-use Rattle.transfer.specs.Neighbors.{countOf, neighbors, Connected}
-use Rattle.transfer.proofs.NeighborLaws.{neighbors-none}
+use Rattle.memory.specs.declared.edges.Side.{Side}
+use Rattle.memory.specs.declared.edges.Side.the-variants.{Successors, Predecessors}
+use Rattle.memory.specs.Edges.{countOf, neighbors, Connected}
+use Rattle.memory.proofs.EdgeLaws.{neighbors-none}
 use Rattle.propagate.proofs.Graphs as graphs
 use Rattle.edges.specs.Flow.{Flows}
 use Rattle.edges.proofs.EdgeLaws.{marked-flag, flag-few}
@@ -51,7 +51,7 @@ module _ {code : List Instruction} {parameter : ℕ → Bool} {y : Layout} {m : 
   pub some-block : 0 < y .blocks
   some-block = omega (arith, f .blocks, blocks-some code parameter (s .slots) (s .checked))
 
-  -- each edge has its words and leads to a block
+  -- each edge leads from a block to a block
   pub connected : Connected y m
   connected = graphs.connected (f .holds) (f .chained)
 
@@ -73,7 +73,7 @@ module _ {code : List Instruction} {parameter : ℕ → Bool} {y : Layout} {m : 
 
   module _ (z : Sized (scratchWidths y) m) where
     -- a word past the blocks
-    word-past : (k b : ℕ) → 4 ≤ k → k < 16 → y .blocks ≤ b → word m k b ≡ 0
+    word-past : (k b : ℕ) → startCell ≤ k → k < successorCell → y .blocks ≤ b → word m k b ≡ 0
     word-past k b lo hi le = List·getD-eq-default (cell m k) 0 (omega (arith, sized-blocks y z k lo hi))
 
     -- no edges are counted there

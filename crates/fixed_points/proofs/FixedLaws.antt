@@ -1,5 +1,5 @@
 -- The three stages of `fixed_points` put together: what stays between them, and the answer for each way to stop. Assumes nothing.
-use mathlib.Core.Path.{_≡_, sym, ap, _∙_}
+use mathlib.Core.Path.{_≡_, refl, sym, ap, _∙_}
 use mathlib.Core.Bool.{Bool}
 use mathlib.Core.List.{List, reverse}
 use Prim.Native.Nat.{ℕ, _^_, _<_}
@@ -16,14 +16,13 @@ use Rattle.budget.specs.declared.Charged.the-variants.{Ok, Over}
 use Rattle.budget.specs.Budget.{charged}
 use Rattle.budget.proofs.BudgetLaws.{met-then, over-then, over-not-ok}
 use Rattle.memory.specs.Cells.{Mem, cell}
-use Rattle.memory.specs.Names.{orderCell}
-use Rattle.memory.specs.Names.{parametersRow, initializedRow, liveRow}
+use Rattle.memory.specs.Names.{orderCell, parametersRow, initializedRow, liveRow}
 use Rattle.memory.specs.Scratch.{scratchWidths, scratch, Room}
 use Rattle.memory.specs.declared.layout.Layout.{Layout}
 use Rattle.memory.proofs.CellLaws.{Sized}
 use Rattle.memory.proofs.ScratchLaws.{scratch-sized, row-words}
 use Rattle.edges.specs.Edges.{Held}
-use Rattle.edges.proofs.FlowLaws.{Still, flows-still}
+use Rattle.edges.proofs.FlowLaws.{Still, still-only, flows-still}
 use Rattle.order.specs.declared.Ordered.{Ordered}
 use Rattle.order.specs.declared.Ordered.the-variants as ordering
 use Rattle.order.specs.Postorder.{searchedFrom, searchCharges, chargedIn, Searched}
@@ -43,11 +42,7 @@ use Rattle.fixed_points.proofs.Seeds.{seedable}
 
 -- the search leaves the graph's cells as they were
 pub still-searched : {y : Layout} {l : Limits} {b : FlowBudget} {m m′ : Mem} {o : Ordered} → Searched y l b m m′ o → Still y m m′
-still-searched {y = y} p = record {
-  low = λ k lt. p .others k (λ e. omega arith) (λ e. omega arith) (λ e. omega arith) (λ e. omega arith);
-  edges = λ k lo hi. p .others k (λ e. omega arith) (λ e. omega arith) (λ e. omega arith) (λ e. omega arith);
-  parameters = p .others (parametersRow (y .blocks)) (λ e. omega arith) (λ e. omega arith) (λ e. omega arith) (λ e. omega arith);
-}
+still-searched p = still-only refl (λ k r. absurd r) (p .only)
 
 -- so does a round
 pub still-round : {d : Direction} {y : Layout} {l : Limits} {b : FlowBudget} {n : ℕ} {m m′ t t′ : Mem} {r : Charged} {left : FlowBudget}
@@ -153,7 +148,7 @@ module _ {y : Layout} {l : Limits} {b : FlowBudget} {m m₁ t t′ : Mem} {o : O
         q .others last u k (λ v. omega arith) (λ v. omega arith) (λ v. omega arith) (λ v. omega arith) ∙ kept .edges k lo hi;
     rows = λ last u k lo.
         q .others last u k (λ v. omega arith) (λ v. omega arith) (λ v. omega arith) (λ v. omega arith)
-        ∙ p .others k (λ v. omega arith) (λ v. omega arith) (λ v. omega arith) (λ v. omega arith);
+        ∙ p .only .others k (omega arith) (λ v. v);
   }
     where
       kept : Still y m m₁

@@ -1,7 +1,7 @@
 -- What `gather` of crate `transfer` computes after both rounds: the sets at a block's entry and exit, bit by bit. Assumes nothing.
 use mathlib.Core.Path.{_≡_, sym, ap, ap₂, _∙_, subst}
 use mathlib.Core.Bool.{Bool, true, false, not, _&&_, _||_}
-use mathlib.Core.List.{List, [], map}
+use mathlib.Core.List.{List, map}
 use Prim.Native.Nat.{ℕ, _*_, _<_}
 use native.Mathlib.Omega.{arith}
 use Rattle.bitset.specs.Sets.{member, Words}
@@ -24,7 +24,9 @@ use Rattle.edges.proofs.FlowLaws.{Still}
 use Rattle.bitset.specs.Below.{AllBelow}
 use Rattle.transfer.specs.declared.direction.Direction.{Direction}
 use Rattle.transfer.specs.declared.direction.Direction.the-variants.{Initialization, Liveness}
-use Rattle.transfer.specs.Neighbors.{readsOf, neighbors}
+use Rattle.memory.specs.Edges.{neighbors}
+use Rattle.memory.specs.Sets.{SetsRow}
+use Rattle.transfer.specs.Directions.{readsOf}
 use Rattle.transfer.specs.Transfer.{keptRow, entryOf, gathered}
 use Rattle.propagate.specs.Rounds.{rowsOf, gatherRows}
 use Rattle.propagate.proofs.Fixed.{kept-among, fixed-none, gather-all}
@@ -36,7 +38,7 @@ use Rattle.fixed_points.proofs.RoundLaws.{rows-bit, rows-table}
 
 -- every row of the sets buffer is of words
 abbrev pub SetsOfWords : Layout → Mem → Type 0
-SetsOfWords y t = (k : ℕ) → k < 2 * y .blocks → Words (y .words) (cell t k)
+SetsOfWords y t = (k : ℕ) → SetsRow y k → Words (y .words) (cell t k)
 
 module _ {code : List Instruction} {parameter : ℕ → Bool} {y : Layout} {m : Mem} (s : Scripted code parameter (y .words))
     (f : Flows code parameter y m) where

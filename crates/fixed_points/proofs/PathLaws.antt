@@ -21,6 +21,7 @@ use Rattle.dataflow.proofs.FlowGraph.{live-entry-row}
 use Rattle.dataflow.proofs.Results.{reachable-iff, init-exit-at, live-entry-at, live-below, filled-below, unreached-init, unreached-live}
 use Rattle.memory.specs.Cells.{Mem, cell}
 use Rattle.memory.specs.Names.{initializedRow, liveRow}
+use Rattle.memory.specs.Sets.{SetsRow}
 use Rattle.memory.specs.declared.layout.Layout.{Layout}
 use Rattle.fixed_points.specs.FixedPoints.{Scripted, Sets}
 use Rattle.fixed_points.specs.PathSets.{firstOf, lastOf, ReachedBlock, FilledThrough, LiveFrom, PathSets}
@@ -67,8 +68,8 @@ module _ (code : List Instruction) (parameter : ℕ → Bool) (y : Layout) (h : 
       not-true (reachable code c)
       (λ e. never (block-reached c lt .1 (reachable-iff code parameter (h .slots) (y .words) (h .checked) (h .wide) c .0 e)))
 
-  module _ (t : Mem) (long : (k : ℕ) → k < 2 * y .blocks → Words (y .words) (cell t k)) (g : Sets code parameter y t) where
-    past : (k s : ℕ) → k < 2 * y .blocks → 64 * y .words ≤ s → member (cell t k) s ≡ false
+  module _ (t : Mem) (long : (k : ℕ) → SetsRow y k → Words (y .words) (cell t k)) (g : Sets code parameter y t) where
+    past : (k s : ℕ) → SetsRow y k → 64 * y .words ≤ s → member (cell t k) s ≡ false
     past k s lt le = member-past (cell t k) s (omega (arith, long k lt .long))
 
     initialized-iff : (c : ℕ) → c < y .blocks → ReachedBlock code parameter c → (s : ℕ)

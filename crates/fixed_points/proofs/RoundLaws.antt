@@ -36,7 +36,8 @@ use Rattle.memory.proofs.CellLaws.{Sized}
 use Rattle.memory.proofs.ScratchLaws.{sized-blocks}
 use Rattle.transfer.specs.declared.direction.Direction.{Direction}
 use Rattle.transfer.specs.declared.direction.Direction.the-variants.{Initialization, Liveness}
-use Rattle.transfer.specs.Neighbors.{readsOf, dependentsOf, neighbors}
+use Rattle.memory.specs.Edges.{neighbors}
+use Rattle.transfer.specs.Directions.{readsOf, dependentsOf}
 use Rattle.transfer.specs.Transfer.{keptRow}
 use Rattle.solver.specs.Run.{queueOf}
 use Rattle.propagate.specs.Rounds.{rowsOf, rowSolver, beginning, roundRun, roundCharges, Propagated}

@@ -3,7 +3,7 @@
 use mathlib.Core.Path.{_≡_}
 use mathlib.Core.Bool.{Bool, true, false}
 use mathlib.Core.List.{List, _++_}
-use Prim.Native.Nat.{ℕ, _+_, _*_, _≤_, _<_}
+use Prim.Native.Nat.{ℕ, _*_, _≤_, _<_}
 use Rattle.bitset.specs.Sets.{member}
 use Rattle.dataflow.specs.Analyses.{initialization, liveness}
 use Rattle.dataflow.specs.Program.{EmptiesNothing}
@@ -18,7 +18,7 @@ use Rattle.budget.specs.declared.Charged.{Charged}
 use Rattle.budget.specs.declared.Charged.the-variants.{Ok}
 use Rattle.budget.specs.Budget.{charged}
 use Rattle.memory.specs.Cells.{Mem, cell}
-use Rattle.memory.specs.Names.{initializedRow, liveRow}
+use Rattle.memory.specs.Names.{orderCell, successorCell, stateRow, parametersRow, initializedRow, liveRow}
 use Rattle.memory.specs.declared.layout.Layout.{Layout}
 use Rattle.edges.specs.Flow.{Flows, Fresh}
 
@@ -51,6 +51,6 @@ pub record Fixed (y : Layout) (l : Limits) (b : FlowBudget) (m m′ t t′ : Mem
   pub sets : (code : List Instruction) (parameter : ℕ → Bool) → Scripted code parameter (y .words) → Flows code parameter y m → Fresh y t
       → (left : FlowBudget) → r ≡ Ok left → Sets code parameter y t′
   -- of scratch only the cells of the search, the ring and the running rows change: the ten first cells, the edges, and the other rows stay
-  pub others : (left : FlowBudget) → r ≡ Ok left → (k : ℕ) → k < 10 → cell m′ k ≡ cell m k
-  pub edges : (left : FlowBudget) → r ≡ Ok left → (k : ℕ) → 16 ≤ k → k < 18 + 4 * y .blocks → cell m′ k ≡ cell m k
-  pub rows : (left : FlowBudget) → r ≡ Ok left → (k : ℕ) → 20 + 4 * y .blocks ≤ k → cell m′ k ≡ cell m k
+  pub others : (left : FlowBudget) → r ≡ Ok left → (k : ℕ) → k < orderCell → cell m′ k ≡ cell m k
+  pub edges : (left : FlowBudget) → r ≡ Ok left → (k : ℕ) → successorCell ≤ k → k < stateRow (y .blocks) → cell m′ k ≡ cell m k
+  pub rows : (left : FlowBudget) → r ≡ Ok left → (k : ℕ) → parametersRow (y .blocks) ≤ k → cell m′ k ≡ cell m k

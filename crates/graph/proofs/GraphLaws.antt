@@ -1,8 +1,7 @@
 -- The stages one after the other: what each does, from what its calls do. Assumes nothing.
-use mathlib.Core.Path.{_≡_, sym, ap, subst, _∙_}
+use mathlib.Core.Path.{_≡_, refl, sym, ap, subst, _∙_}
 use mathlib.Core.Bool.{Bool}
 use mathlib.Core.List.{List, _++_}
-use mathlib.Core.Logic.{inl}
 use Prim.Native.Nat.{ℕ, _+_, _≤_, _<_}
 use native.Mathlib.Omega.{arith}
 use lib.ListN.{length, take}
@@ -23,7 +22,8 @@ use Rattle.memory.specs.Names.{offsetCell, blockOfCell, leaderCell, parametersR
 use Rattle.memory.specs.declared.layout.Layout.{Layout}
 use Rattle.memory.specs.Scratch.{scratch, scratchWidths, Room, Row}
 use Rattle.memory.specs.Sets.{sets, SetsRoom}
-use Rattle.memory.proofs.CellLaws.{cell-store-same, cell-store-other}
+use Rattle.memory.proofs.CellLaws.{cell-store-same}
+use Rattle.memory.proofs.FrameLaws.{only-row}
 use Rattle.memory.proofs.CellRows.{Lies, lies-fits, lies-patched}
 use Rattle.memory.proofs.ScratchLaws.{row-lies, scratch-length}
 use Rattle.sheet.specs.declared.script.Script.{Script}
@@ -36,7 +36,7 @@ use Rattle.edges.specs.Reachability.{Reached, sweepCharges}
 use Rattle.edges.specs.Flow.{Fresh}
 use Rattle.blocks.specs.Blocks.{Ready}
 use Rattle.blocks.specs.Blocks as building
-use Rattle.blocks.proofs.BlockLaws.{ready-kept}
+use Rattle.blocks.proofs.KeptLaws.{ready-kept}
 use Rattle.rooms.specs.declared.Staged.{Staged}
 use Rattle.rooms.specs.declared.Staged.the-variants.{Ok, Refused}
 use Rattle.rooms.specs.Rooms.{ifMet, Indexes, Measured}
@@ -76,7 +76,7 @@ joined y m w w′ f e = record {
   linked = f;
   parameters = λ i. ap (λ (r : List ℕ). member r i) (ap (λ (v : Mem). cell v (parametersRow (y .blocks))) (e .stored)
       ∙ cell-store-same (scratch y w) (parametersRow (y .blocks)) (e .row) (omega (arith, scratch-length y w))) ∙ e .members i;
-  others = λ k ne. ap (λ (v : Mem). cell v k) (e .stored) ∙ cell-store-other (scratch y w) (parametersRow (y .blocks)) (e .row) k ne;
+  only = only-row (parametersRow (y .blocks)) (e .row) (omega arith) (e .stored);
 }
 
 -- ---- `reach`
@@ -127,11 +127,7 @@ module _ (s : List ℕ) (parameter : ℕ → Bool) (x : Script) (y : Layout) (l 
   module _ (left : FlowBudget) (ec : c ≡ charging.Ok left) (ready : Ready s x y m) where
     -- the index stays
     ready-still : Ready s x y m₁
-    ready-still = ready-kept ready (untouched offsetCell (omega arith)) (untouched blockOfCell (omega arith)) (untouched leaderCell (omega arith))
-      where
-        untouched : (k : ℕ) → k < 3 → cell m₁ k ≡ cell m k
-        untouched k h =
-            g .others k ((λ e. omega arith), (λ e. omega arith), (λ e. omega arith), (λ e. omega arith), (λ e. omega arith), inl (omega arith))
+    ready-still = ready-kept ready (g .only .named offsetCell refl) (g .only .named blockOfCell refl) (g .only .named leaderCell refl)
 
     -- what `join` asks for
     pub join-held : Held y m₁

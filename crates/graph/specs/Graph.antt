@@ -1,7 +1,7 @@
 -- `graph` and `reachability` of flow.rs: the answer, and what both buffers hold where it goes on.
 use mathlib.Core.Path.{_≡_}
 use mathlib.Core.Bool.{Bool}
-use mathlib.Core.List.{List, _∷_, _++_}
+use mathlib.Core.List.{List, [], _∷_, _++_}
 use Prim.Native.Nat.{ℕ, _<_}
 use lib.ListN.{length}
 use Rattle.bitset.specs.Sets.{member}
@@ -13,6 +13,7 @@ use Rattle.budget.specs.declared.Charged.{Charged}
 use Rattle.budget.specs.Budget.{charged}
 use Rattle.memory.specs.Cells.{Mem, cell, storeCell}
 use Rattle.memory.specs.Names.{parametersRow}
+use Rattle.memory.specs.Frame.{Only, ThisRow}
 use Rattle.memory.specs.declared.layout.Layout.{Layout}
 use Rattle.memory.specs.Scratch.{scratch}
 use Rattle.memory.specs.Sets.{sets}
@@ -68,7 +69,7 @@ pub record Joined (parameter : ℕ → Bool) (y : Layout) (m m′ : Mem) : Type 
   pub between : Mem
   pub linked : Linked y m between
   pub parameters : (i : ℕ) → member (cell m′ (parametersRow (y .blocks))) i ≡ parameter i
-  pub others : (k : ℕ) → (k ≡ parametersRow (y .blocks) → ⊥) → cell m′ k ≡ cell between k
+  pub only : Only [] (ThisRow (parametersRow (y .blocks))) between m′
 
 -- what `reach` does
 pub record Reaches (y : Layout) (l : Limits) (b : FlowBudget) (m m′ : Mem) (r : Staged) : Type 0 where

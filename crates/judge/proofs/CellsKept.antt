@@ -10,12 +10,11 @@ use Rattle.dataflow.specs.Results.{blockCount}
 use Rattle.dataflow.specs.Charges.{costAt}
 use Rattle.dataflow.proofs.Leaders.{block-range, block-place}
 use Rattle.memory.specs.Cells.{Mem, word}
-use Rattle.memory.specs.Names.{costCell, startCell, endCell, successorCountCell}
-use Rattle.memory.specs.Names.{successorCell, usesRow, definesRow}
+use Rattle.memory.specs.Names.{costCell, startCell, endCell, successorCountCell, successorCell}
 use Rattle.memory.specs.declared.layout.Layout.{Layout}
 use Rattle.edges.proofs.FlowLaws.{Still}
 use Rattle.blocks.specs.Blocks.{Block}
-use Rattle.graph.proofs.HoldingLaws.{block-kept}
+use Rattle.blocks.proofs.KeptLaws.{words-cells, block-kept}
 use Rattle.dataflow.proofs.Lists.{range-bounds}
 
 -- ---- what stays
@@ -24,9 +23,9 @@ use Rattle.dataflow.proofs.Lists.{range-bounds}
 pub block-still : {code : List Instruction} {parameter : ℕ → Bool} {y : Layout} {m m′ : Mem} → Still y m m′ → (c : ℕ) → c < y .blocks
     → Block code parameter m c → Block code parameter m′ c
 block-still h c lt =
-    block-kept (h .low costCell (omega arith)) (h .low startCell (omega arith)) (h .low endCell (omega arith))
-    (h .low successorCountCell (omega arith)) (h .edges successorCell (omega arith) (omega arith))
-    (h .edges (usesRow c) (omega arith) (omega arith)) (h .edges (definesRow c) (omega arith) (omega arith))
+    block-kept (words-cells (h .low costCell (omega arith)) (h .low startCell (omega arith)) (h .low endCell (omega arith))
+    (h .low successorCountCell (omega arith)) (h .edges successorCell (omega arith) (omega arith)) c)
+    (λ k r. h .edges k (omega arith) (omega arith))
 
 -- ---- the charge of each instruction
 
@@ -45,5 +44,5 @@ pub all-costs : {code : List Instruction} {parameter : ℕ → Bool} (y : Layout
     → ((c : ℕ) → c < y .blocks → Block code parameter m c) → (i : ℕ) → i < length code → word m costCell i ≡ costAt code i
 all-costs {code} {parameter} y {m} e f i lt =
     let p = among-block code i lt in
-    let g : Block code parameter m (p .0) = f (p .0) (omega (arith, p .1)) in
+    let g = f (p .0) (omega (arith, p .1)) .words in
     g .costs i (omega (arith, p .2, g .start)) (omega (arith, p .3, g .end))

@@ -128,8 +128,8 @@ module _ (s : List ℕ) (parameter : ℕ → Bool) (x : Script) (y : Layout) (m 
         };
         scripted = scripted-here;
         flows = flows-still still (begun .holding .flows);
-        starts = λ d lt. block-here d lt .start;
-        ends = λ d lt. block-here d lt .end;
+        starts = λ d lt. block-here d lt .words .start;
+        ends = λ d lt. block-here d lt .words .end;
         sets = f .sets (flowCode (partsOf s)) parameter scripted-here (begun .holding .flows) (begun .fresh) left ec;
         awaits = begun .awaits;
       }

@@ -14,7 +14,7 @@ use Rattle.dataflow.specs.Results.{blockCount}
 use Rattle.dataflow.proofs.Leaders.{leaders-are, leaders-count}
 use Rattle.dataflow.proofs.Lists.{getD-tabulate, keep-few, range-length}
 use Rattle.memory.specs.Cells.{Mem, cell, word}
-use Rattle.memory.specs.Names.{blockOfCell, leaderCell, offsetCell}
+use Rattle.memory.specs.Names.{blockOfCell, leaderCell, offsetCell, startCell}
 use Rattle.memory.specs.declared.layout.Layout.{Layout}
 use Rattle.memory.specs.Scratch.{scratch}
 use Rattle.memory.proofs.CellLaws.{same-word}
@@ -95,7 +95,7 @@ indexed-grown s x y y′ l e g = record {
   numbers = λ t lt q. at blockOfCell t (omega arith) ∙ g .numbers t lt q;
 }
   where
-    at : (k i : ℕ) → k < 4 → word (scratch y′ l) k i ≡ word (scratch y l) k i
+    at : (k i : ℕ) → k < startCell → word (scratch y′ l) k i ≡ word (scratch y l) k i
     at k i h = same-word i (sym (grown y y′ l k e h))
 
 -- there are no more blocks than instructions

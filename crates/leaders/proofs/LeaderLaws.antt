@@ -83,7 +83,7 @@ module _ (s : List ℕ) (x : Script) (h : Sound s x) where
       kept k f = ap (λ (w : Mem). cell w k) e₂ ∙ marked-other ends ts (x .count) i m₁ k f
 
       offset : (k : ℕ) → k < i + 1 → Dec (k ≡ i) → word m₁ offsetCell k ≡ codeOffset s x k
-      offset k b (yes p) = ap (λ (w : Mem). word w offsetCell k) e₁ ∙ rw p (word-put (marking x) z (place-instructions (marking x) 0 i (omega arith) l) at ∙ e)
+      offset k b (yes p) = ap (λ (w : Mem). word w offsetCell k) e₁ ∙ rw p (word-put (marking x) z (place-instructions (marking x) offsetCell i (omega arith) l) at ∙ e)
       offset k b (no p) = ap (λ (w : Mem). word w offsetCell k) e₁ ∙ word-store-other m′ offsetCell i at offsetCell k (λ _. p) ∙ g .offsets k (omega arith)
 
 -- ---- leaders by all instructions are the leaders
@@ -193,7 +193,7 @@ module _ {s : List ℕ} {x : Script} (h : Sound s x) where
 module _ (x : Script) {m m₁ m₂ : Mem} (z : Sized (scratchWidths (marking x)) m)
     (e₁ : m₁ ≡ storeCell m blockOfCell (replicate (getD (scratchWidths (marking x)) 1 0) 0)) (e₂ : m₂ ≡ store m₁ blockOfCell 0 1) where
   width-is : getD (scratchWidths (marking x)) 1 0 ≡ x .count
-  width-is = width-instructions (marking x) 1 (omega arith)
+  width-is = width-instructions (marking x) blockOfCell (omega arith)
 
   sized₁ : Sized (scratchWidths (marking x)) m₁
   sized₁ = subst (λ (w : Mem). Sized (scratchWidths (marking x)) w) (sym e₁)
@@ -207,7 +207,7 @@ module _ (x : Script) {m m₁ m₂ : Mem} (z : Sized (scratchWidths (marking x))
           ∙ getD-replicate (getD (scratchWidths (marking x)) 1 0) j 0 0 (omega (arith, width-is))
 
       go : Dec (j ≡ 0) → word m₂ blockOfCell j ≡ flag (eqb j 0)
-      go (yes p) = ap (λ (w : Mem). word w blockOfCell j) e₂ ∙ rw (eq-eqb j 0 p) (rw p (word-put (marking x) sized₁ (place-instructions (marking x) 1 0 (omega arith) (omega arith)) 1))
+      go (yes p) = ap (λ (w : Mem). word w blockOfCell j) e₂ ∙ rw (eq-eqb j 0 p) (rw p (word-put (marking x) sized₁ (place-instructions (marking x) blockOfCell 0 (omega arith) (omega arith)) 1))
       go (no p) = ap (λ (w : Mem). word w blockOfCell j) e₂ ∙ rw (ne-eqb j 0 p) (word-store-other m₁ blockOfCell 0 1 blockOfCell j (λ _. p) ∙ zero-at)
 
   pub leads-from : {s : List ℕ} {l : Limits} {b : FlowBudget} {m′ : Mem} {r : Charged} → Leads s x l b m₂ m′ r → Leads s x l b m m′ r

@@ -35,7 +35,7 @@ module _ (y : Layout) where
   store-mark m t j z h = go (ℕ-discrete j t)
     where
       go : Dec (j ≡ t) → word (store m blockOfCell t 1) blockOfCell j ≡ pick (eqb j t) 1 (word m blockOfCell j)
-      go (yes e) = rw (eq-eqb j t e) (rw e (word-put y z (place-instructions y 1 t (omega arith) h) 1))
+      go (yes e) = rw (eq-eqb j t e) (rw e (word-put y z (place-instructions y blockOfCell t (omega arith) h) 1))
       go (no e) = rw (ne-eqb j t e) (word-store-other m blockOfCell t 1 blockOfCell j (λ _. e))
 
   pub mark-all-sized : (js : List ℕ) (m : Mem) → Sized (scratchWidths y) m → Sized (scratchWidths y) (markAll js m)

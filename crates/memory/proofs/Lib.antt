@@ -3,4 +3,5 @@ pub mod CellLaws
 pub mod CellRows
 pub mod ScratchLaws
 pub mod SetsLaws
+pub mod FrameLaws
 pub mod EdgeLaws

@@ -3,4 +3,5 @@ pub mod Cells
 pub mod Names
 pub mod Scratch
 pub mod Edges
+pub mod Frame
 pub mod Sets

@@ -59,6 +59,10 @@ successorCell = 16
 abbrev pub nextEdgeCell : ℕ
 nextEdgeCell = 17
 
+-- every cell before this one has a name, and every cell from it on is a row
+abbrev pub firstRow : ℕ
+firstRow = 18
+
 -- rows: what block b uses and what it defines
 abbrev pub usesRow : ℕ → ℕ
 usesRow b = 18 + 2 * b
@@ -85,6 +89,10 @@ initializedRow b = 2 * b
 
 abbrev pub liveRow : ℕ → ℕ
 liveRow b = 2 * b + 1
+
+-- and behind the rows of n blocks the entry of the k-th await
+abbrev pub awaitEntry : ℕ → ℕ → ℕ
+awaitEntry n k = 2 * n + k
 
 -- a mark as a word
 abbrev pub flag : Bool → ℕ

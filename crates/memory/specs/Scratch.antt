@@ -3,6 +3,7 @@ use mathlib.Core.List.{List, _++_}
 use Prim.Native.Nat.{ℕ, _+_, _*_, _≤_, _<_}
 use lib.ListN.{getD, length, replicate}
 use Rattle.memory.specs.Cells.{Mem, cells}
+use Rattle.memory.specs.Names.{firstRow, startCell, successorCell}
 use Rattle.memory.specs.declared.layout.Layout.{Layout}
 
 -- how many edges there may be: two a block, and the extra ones
@@ -41,7 +42,12 @@ pub record Place (y : Layout) (k i : ℕ) : Type 0 where
   pub among : k < scratchCells y
   pub inside : i < getD (scratchWidths y) k 0
 
+-- cell k has a word a block
+pub record BlockCell (k : ℕ) : Type 0 where
+  pub low : startCell ≤ k
+  pub high : k < successorCell
+
 -- cell k is a row of w words
 pub record Row (y : Layout) (k : ℕ) : Type 0 where
-  pub low : 18 ≤ k
+  pub low : firstRow ≤ k
   pub high : k < scratchCells y

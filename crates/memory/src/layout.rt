@@ -3,8 +3,8 @@ ghost use mathlib.Core.Path.{_≡_};
 ghost use Prim.Native.Nat.{ℕ, _+_, _*_, _≤_, _<_};
 ghost use lib.ListN.{take, getD};
 ghost use Rattle.memory.specs.Cells.{total};
-ghost use Rattle.memory.specs.Names.{usesRow, definesRow, stateRow, liveStateRow, parametersRow, hostsRow, initializedRow, liveRow};
-ghost use Rattle.memory.specs.Scratch.{scratchWidths, scratchCells, scratchWords};
+ghost use Rattle.memory.specs.Names.{usesRow, definesRow, stateRow, liveStateRow, parametersRow, hostsRow, initializedRow, liveRow, awaitEntry};
+ghost use Rattle.memory.specs.Scratch.{edgeWords, scratchWidths, scratchCells, scratchWords};
 ghost use Rattle.memory.specs.Sets.{setsWidths, setsWords};
 
 // The numbers that fix both layouts: instructions, blocks, words a set, awaits, and how many edges there may be past two a block.
@@ -51,7 +51,7 @@ pub const STACK_EDGE: usize = 14;
 
 pub const VISITED: usize = 15;
 
-// Cells of a word an edge: edge 2 * i + k is the k-th of block i. Where it leads; and the next edge that leads to the same block.
+// Two words a block, for its first edges; and a word an edge, the next one that leads to the same block (`edges`).
 pub const SUCCESSOR: usize = 16;
 
 pub const NEXT_EDGE: usize = 17;
@@ -120,6 +120,14 @@ impl Layout {
         2 * block + 1
     }
 
+    // The cell of the k-th await's entry there.
+    pub fn await_entry(self, k: usize) -> usize
+        requires { ⌜ (self .blocks ≤ 65536) × (k ≤ 65536) ⌝ }
+        ensures { λ r. ⌜ r ≡ awaitEntry (self .blocks) k ⌝ }
+    {
+        2 * self.blocks + k
+    }
+
     // Document 01's size of scratch.
     pub fn scratch_words(self) -> usize
         requires { ⌜ (self .instructions ≤ 65536) × (self .blocks ≤ 65536) × (self .words ≤ 1024) × (self .extra ≤ 16777216) ⌝ }
@@ -129,6 +137,14 @@ impl Layout {
             + self.blocks * (4 * self.words + 16)
             + 4 * self.words
             + 4 * self.extra
+    }
+
+    // How many edges there may be.
+    pub fn edge_words(self) -> usize
+        requires { ⌜ (self .blocks ≤ 65536) × (self .extra ≤ 16777216) ⌝ }
+        ensures { λ r. ⌜ r ≡ edgeWords self ⌝ }
+    {
+        2 * self.blocks + self.extra
     }
 
     // Document 01's size of the sets buffer.

@@ -7,12 +7,14 @@ use lib.ListN.{length, getD, set, drop, length-drop}
 use lib.Seq.{getD-set-same, getD-set-other, getD-drop}
 use Rattle.dataflow.specs.Search.{Frame}
 use Rattle.memory.specs.Cells.{Mem, cell, word}
-use Rattle.memory.specs.Names.{stackBlockCell, stackEdgeCell, successorCell, successorCountCell}
+use Rattle.memory.specs.Frame.{Only, NoRow}
+use Rattle.memory.specs.Names.{stackBlockCell, stackEdgeCell}
 use Rattle.memory.specs.Scratch.{edgeWords}
 use Rattle.memory.specs.declared.layout.Layout.{Layout}
 use Rattle.edges.specs.Edges.{Holds, Held}
-use Rattle.edges.proofs.EdgeLaws as edges
-use Rattle.order.specs.Turns.{framesOf, stackOf, Kept, Facing}
+use Rattle.edges.proofs.EdgeLaws.{holds-only, edges-within}
+use Rattle.order.specs.Postorder.{searchCells}
+use Rattle.order.specs.Turns.{framesOf, stackOf, Facing}
 
 -- what the word at i of the stack's cells says
 abbrev pub frameAt : (ℕ → List ℕ) → Mem → ℕ → Frame
@@ -67,17 +69,11 @@ frames-next next bs es i e g =
     ) refl
 
 -- ---- the graph
-module _ (m m′ : Mem) (k : Kept m m′) where
-  pub holds-kept : {next : ℕ → List ℕ} {y : Layout} → Holds next y m → Holds next y m′
-  holds-kept h =
-      edges.holds-kept (k successorCountCell (λ q. omega arith) (λ q. omega arith) (λ q. omega arith) (λ q. omega arith))
-      (k successorCell (λ q. omega arith) (λ q. omega arith) (λ q. omega arith) (λ q. omega arith)) h
+pub holds-kept : {next : ℕ → List ℕ} {y : Layout} {m m′ : Mem} → Only searchCells NoRow m m′ → Holds next y m → Holds next y m′
+holds-kept o h = holds-only o refl refl h
 
-  pub held-kept : (y : Layout) → Held y m → Held y m′
-  held-kept y h = (h .0, holds-kept (h .1))
-
-pub kept-trans : (m m′ m″ : Mem) → Kept m m′ → Kept m′ m″ → Kept m m″
-kept-trans m m′ m″ f g k a b c d = g k a b c d ∙ f k a b c d
+pub held-kept : {y : Layout} {m m′ : Mem} → Only searchCells NoRow m m′ → Held y m → Held y m′
+held-kept o h = (h .0, holds-kept o (h .1))
 
 -- the successors of a frame that are to be looked at are blocks
 pub rest-below : {next : ℕ → List ℕ} {y : Layout} {m : Mem} → Holds next y m → (b e : ℕ) → b < y .blocks
@@ -86,6 +82,6 @@ rest-below {next} h b e lt i g =
     rw (getD-drop e (next b) i 0) (h .below b (e + i) lt (omega (arith, rw (length-drop e (next b)) at g)))
 
 -- an edge that is counted is one of the edges that have words
-pub edge-few : {y : Layout} {m : Mem} {top b e : ℕ} → Facing y m top b e → e < edgeWords y
+pub edge-few : {y : Layout} {m : Mem} {top b n e : ℕ} → Facing y m top b n e → e < edgeWords y
 edge-few {y} {b} f =
-    omega (arith, f .counted, f .held .1 .counted b (f .inside), edges.edges-within (f .held .0) b (y .blocks) (f .inside), f .held .1 .few)
+    omega (arith, f .left, f .counted, f .held .1 .counted b (f .inside), edges-within (f .held .0) b (y .blocks) (f .inside), f .held .1 .few)

@@ -1,10 +1,11 @@
 -- The depth-first search of solver.rs `postorder`, over the words of scratch.
 use mathlib.Core.Path.{_≡_}
-use mathlib.Core.List.{List, _∷_, reverse}
+use mathlib.Core.List.{List, [], _∷_, reverse}
 use Prim.Native.Nat.{ℕ, _*_}
 use lib.ListN.{length, replicate, take}
 use Rattle.dataflow.specs.Search.{Search, search, searchFrom, turns, allTurns}
 use Rattle.memory.specs.Cells.{Mem, cell}
+use Rattle.memory.specs.Frame.{Only, NoRow}
 use Rattle.memory.specs.Names.{orderCell, stackBlockCell, stackEdgeCell, visitedCell}
 use Rattle.memory.specs.declared.layout.Layout.{Layout}
 use Rattle.budget.specs.declared.FlowBudget.{FlowBudget}
@@ -29,6 +30,10 @@ abbrev pub chargedIn : Ordered → Charged
 chargedIn (Ok n b) = charging.Ok b
 chargedIn (Over b) = charging.Over b
 
+-- the cells of the search
+abbrev pub searchCells : List ℕ
+searchCells = orderCell ∷ stackBlockCell ∷ stackEdgeCell ∷ visitedCell ∷ []
+
 -- what `postorder` does, for whatever graph the words hold: its charges, and if they are met, how many blocks it found, and these in postorder
 -- at the front of ORDER; four cells change
 pub record Searched (y : Layout) (l : Limits) (b : FlowBudget) (m m′ : Mem) (r : Ordered) : Type 0 where
@@ -37,5 +42,4 @@ pub record Searched (y : Layout) (l : Limits) (b : FlowBudget) (m m′ : Mem) (r
       → take n (cell m′ orderCell) ≡ reverse (searchedFrom next (y .blocks) .finished)
   pub len : (next : ℕ → List ℕ) → Holds next y m → (n : ℕ) (left : FlowBudget) → r ≡ Ok n left
       → n ≡ length (searchedFrom next (y .blocks) .finished)
-  pub others : (k : ℕ) → (k ≡ orderCell → ⊥) → (k ≡ stackBlockCell → ⊥) → (k ≡ stackEdgeCell → ⊥) → (k ≡ visitedCell → ⊥)
-      → cell m′ k ≡ cell m k
+  pub only : Only searchCells NoRow m m′

@@ -5,6 +5,7 @@ use Prim.Native.Nat.{ℕ, zero, suc, _+_, _-_, _*_, _≤_, _<_}
 use lib.ListN.{getD, take, drop}
 use Rattle.dataflow.specs.Search.{Frame, Search, look, advance, onTop, searchFrom}
 use Rattle.memory.specs.Cells.{Mem, cell, word}
+use Rattle.memory.specs.Frame.{Only, NoRow}
 use Rattle.memory.specs.Names.{flag, orderCell, stackBlockCell, stackEdgeCell, successorCountCell, visitedCell}
 use Rattle.memory.specs.declared.layout.Layout.{Layout}
 use Rattle.budget.specs.declared.FlowBudget.{FlowBudget}
@@ -13,7 +14,7 @@ use Rattle.budget.specs.declared.Charged.the-variants as charging
 use Rattle.budget.specs.Budget.{charged}
 use Rattle.edges.specs.Edges.{marked, Holds, Held}
 use Rattle.order.specs.declared.Ordered.{Ordered}
-use Rattle.order.specs.Postorder.{Searched}
+use Rattle.order.specs.Postorder.{searchCells, Searched}
 
 -- how many words are marks
 unfoldable pub marks : List ℕ → ℕ
@@ -43,38 +44,34 @@ pub record Good (y : Layout) (m : Mem) (top len : ℕ) : Type 0 where
   pub blocks : (i : ℕ) → i < top → word m stackBlockCell i < y .blocks
   pub counted : top + len ≡ marks (cell m visitedCell)
 
--- only the four cells of the search change
-abbrev pub Kept : Mem → Mem → Type 0
-Kept m m′ =
-    (k : ℕ) → (k ≡ orderCell → ⊥) → (k ≡ stackBlockCell → ⊥) → (k ≡ stackEdgeCell → ⊥) → (k ≡ visitedCell → ⊥) → cell m′ k ≡ cell m k
-
 -- `start`: the search from block 0
 pub record Begun (y : Layout) (m : Mem) : Type 0 where
   pub begins : (next : ℕ → List ℕ) → searchOf next m 1 0 ≡ searchFrom next (y .blocks) 0
   pub good : Good y m 1 0
 
--- `look` may begin: the frame on top is at this block and this edge of it
-pub record Facing (y : Layout) (m : Mem) (top block edge : ℕ) : Type 0 where
+-- `look` may begin: the frame on top is at this block, which has n edges, and at this one of them
+pub record Facing (y : Layout) (m : Mem) (top block n edge : ℕ) : Type 0 where
   pub frames : 0 < top
   pub room : top ≤ marks (cell m visitedCell)
   pub held : Held y m
   pub inside : block < y .blocks
   pub atBlock : block ≡ word m stackBlockCell (top - 1)
   pub atEdge : edge ≡ word m stackEdgeCell (top - 1)
-  pub counted : edge < word m successorCountCell block
+  pub counted : n ≡ word m successorCountCell block
+  pub left : edge < n
 
 -- `enter`: the block is pushed if it is not visited yet
 pub record Entered (y : Layout) (m m′ : Mem) (block top top′ : ℕ) : Type 0 where
   pub looks : (next : ℕ → List ℕ) (len : ℕ)
       → searchOf next m′ top′ len ≡ look next (marked (word m visitedCell block)) block (stackOf next m top) (searchOf next m top len)
   pub good : (len : ℕ) → Good y m top len → Good y m′ top′ len
-  pub others : Kept m m′
+  pub only : Only searchCells NoRow m m′
 
 -- `advance`: one turn, for whatever graph the words hold
 pub record Turned (y : Layout) (m m′ : Mem) (top len top′ len′ : ℕ) : Type 0 where
   pub turns : (next : ℕ → List ℕ) → Holds next y m → searchOf next m′ top′ len′ ≡ turned next (searchOf next m top len)
   pub good : Good y m′ top′ len′
-  pub others : Kept m m′
+  pub only : Only searchCells NoRow m m′
 
 -- `look`: one turn, however many blocks are finished
 abbrev pub Looked : Layout → Mem → Mem → ℕ → ℕ → Type 0

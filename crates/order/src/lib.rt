@@ -8,11 +8,12 @@ ghost use mathlib.Core.Path.{_≡_};
 ghost use Prim.Native.Nat.{_<_, _≤_};
 ghost use lib.ListN.{length, replicate};
 ghost use Rattle.memory.specs.Cells.{cell, storeCell};
+ghost use Rattle.memory.specs.Frame.{Only, NoRow};
 ghost use Rattle.memory.specs.Names.{visitedCell};
 ghost use Rattle.memory.specs.Scratch.{scratch, Room};
 ghost use Rattle.edges.specs.Edges.{Held};
-ghost use Rattle.order.specs.Postorder.{Searched};
-ghost use Rattle.order.specs.Turns.{marks, Good, Kept, Begun, Facing, Entered, Turned, Looked, Resumed};
+ghost use Rattle.order.specs.Postorder.{searchCells, Searched};
+ghost use Rattle.order.specs.Turns.{marks, Good, Begun, Facing, Entered, Turned, Looked, Resumed};
 
 // How many blocks are in the order and the budget to go on with, or the one that crossed the limit.
 pub enum Ordered {
@@ -42,7 +43,7 @@ pub fn postorder(s: &mut [u64], y: Layout, limits: Limits, budget: FlowBudget) -
 // Block 0 alone is visited and on the stack.
 fn start(s: &mut [u64], y: Layout)
     requires { ⌜ Room y (length (now s)) × (0 < y .blocks) ⌝ }
-    ensures { λ _. ⌜ Begun y (scratch y (now (s .exit))) × Kept (scratch y (now (s .entry))) (scratch y (now (s .exit))) ⌝ }
+    ensures { λ _. ⌜ Begun y (scratch y (now (s .exit))) × Only searchCells NoRow (scratch y (now (s .entry))) (scratch y (now (s .exit))) ⌝ }
 {
     clear_visited(s, y);
     memory::scratch::put(s, y, layout::VISITED, 0, 1);
@@ -92,9 +93,10 @@ fn advance(s: &mut [u64], y: Layout, top: usize, len: usize) -> Walk
 {
     let block = memory::scratch::get(s, y, layout::STACK_BLOCK, top - 1) as usize;
     let edge = memory::scratch::get(s, y, layout::STACK_EDGE, top - 1) as usize;
-    if edge < memory::scratch::get(s, y, layout::SUCCESSOR_COUNT, block) as usize {
+    let n = memory::scratch::get(s, y, layout::SUCCESSOR_COUNT, block) as usize;
+    if edge < n {
         return Walk {
-            top: look(s, y, block, edge, top),
+            top: look(s, y, block, n, edge, top),
             len: len,
         };
     }
@@ -105,13 +107,13 @@ fn advance(s: &mut [u64], y: Layout, top: usize, len: usize) -> Walk
     }
 }
 
-// The frame's next edge: its block joins the stack unless it is visited. How many frames there are then.
-fn look(s: &mut [u64], y: Layout, block: usize, edge: usize, top: usize) -> usize
-    requires { ⌜ Room y (length (now s)) × Facing y (scratch y (now s)) top block edge ⌝ }
+// The next edge of the n that the frame's block has: its block joins the stack unless it is visited. How many frames there are then.
+fn look(s: &mut [u64], y: Layout, block: usize, n: usize, edge: usize, top: usize) -> usize
+    requires { ⌜ Room y (length (now s)) × Facing y (scratch y (now s)) top block n edge ⌝ }
     ensures { λ r. ⌜ Looked y (scratch y (now (s .entry))) (scratch y (now (s .exit))) top r ⌝ }
 {
     memory::scratch::put(s, y, layout::STACK_EDGE, top - 1, edge as u64 + 1);
-    let to = memory::edges::successor(s, y, block, edge) as usize;
+    let to = memory::edges::successor(s, y, block, n, edge) as usize;
     enter(s, y, to, top)
 }
 

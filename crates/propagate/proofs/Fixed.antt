@@ -2,7 +2,7 @@
 use mathlib.Core.Path.{_≡_, refl, sym, ap, ap₂, _∙_}
 use mathlib.Core.Logic.{_≢_}
 use mathlib.Core.List.{List, [], _∷_}
-use Prim.Native.Nat.{ℕ, zero, suc, _+_, _*_, _≤_, _<_}
+use Prim.Native.Nat.{ℕ, _≤_, _<_}
 use native.Mathlib.Omega.{arith}
 use native.Mathlib.Decide.{ℕ-discrete}
 use native.Mathlib.Nat.{zero-add}
@@ -14,16 +14,19 @@ use Rattle.dataflow.specs.Lists.{pick}
 use Rattle.dataflow.proofs.Lists.{length-tabulate, getD-tabulate}
 use Rattle.memory.specs.Cells.{Mem, cell, word, storeCell}
 use Rattle.memory.specs.Names.{reachableCell, ringCell, queuedCell, successorCell, successorCountCell, firstEdgeCell, nextEdgeCell}
-use Rattle.memory.specs.Names.{predecessorCountCell, usesRow, definesRow, parametersRow}
+use Rattle.memory.specs.Names.{predecessorCountCell, usesRow, definesRow, stateRow, parametersRow, initializedRow}
 use Rattle.memory.specs.declared.layout.Layout.{Layout}
 use Rattle.memory.proofs.CellLaws.{cell-store-same, cell-store-other}
 use Rattle.bitset.specs.Below.{AllBelow}
 use Rattle.transfer.specs.declared.direction.Direction.{Direction}
 use Rattle.transfer.specs.declared.direction.Direction.the-variants.{Initialization, Liveness}
-use Rattle.transfer.specs.declared.direction.Side.{Side}
-use Rattle.transfer.specs.Neighbors.{readsOf, countOf, firstOf, nextOf, endOf, edgesFrom, neighborsFrom, neighbors, Connected}
+use Rattle.memory.specs.declared.edges.Side.{Side}
+use Rattle.memory.specs.declared.edges.Side.the-variants.{Successors, Predecessors}
+use Rattle.memory.specs.Edges.{successorAt, sourceOf, edgesInto, countOf, neighbors, Connected}
+use Rattle.transfer.specs.Directions.{readsOf}
 use Rattle.transfer.specs.Transfer.{runningRow, keptRow, entryOf, gatherOne, gatherAll, gathered, transferred, computed}
-use Rattle.transfer.proofs.NeighborLaws.{SameEdges, neighbors-kept}
+use Rattle.memory.proofs.EdgeLaws.{SameEdges, neighbors-kept}
+use Rattle.edges.proofs.ResultLaws.{chain-length}
 use Rattle.transfer.proofs.TransferLaws.{running-at, transferred-kept}
 use Rattle.propagate.specs.Rounds.{rowsOf, gatherRow, gatherRows, rowSolver}
 
@@ -34,8 +37,8 @@ kept-apart : (d : Direction) (b c : ℕ) → b ≢ c → keptRow d b ≢ keptRow
 kept-apart Initialization b c ne e = ne (omega arith)
 kept-apart Liveness b c ne e = ne (omega arith)
 
--- a block's row is among the rows of the sets buffer
-pub kept-among : (d : Direction) (b n : ℕ) → b < n → keptRow d b < 2 * n
+-- a block's row comes before the rows of each later block
+pub kept-among : (d : Direction) (b n : ℕ) → b < n → keptRow d b < initializedRow n
 kept-among Initialization b n lt = omega arith
 kept-among Liveness b n lt = omega arith
 
@@ -51,7 +54,7 @@ module _ (d : Direction) (y : Layout) (t : Mem) where
   rows-long = length-tabulate 0 (y .blocks) (λ c. cell t (keptRow d c))
 
 -- a row stored is a set of the table
-pub rows-set : (d : Direction) (y : Layout) (t : Mem) (c : ℕ) (x : List ℕ) → c < y .blocks → 2 * y .blocks ≤ length t
+pub rows-set : (d : Direction) (y : Layout) (t : Mem) (c : ℕ) (x : List ℕ) → c < y .blocks → initializedRow (y .blocks) ≤ length t
     → rowsOf d y (storeCell t (keptRow d c) x) ≡ set (rowsOf d y t) c x
 rows-set d y t c x lt fits =
     ext-getD [] (rowsOf d y t′) (set (rowsOf d y t) c x) (rows-long d y t′ ∙ sym (length-set (rowsOf d y t) c x ∙ rows-long d y t))
@@ -91,7 +94,7 @@ module _ {d : Direction} {y : Layout} {m₀ : Mem} where
     fixed-running ws = record { others = λ k a b c. cell-store-other m (runningRow d y) ws k c ∙ f .others k a b c }
 
     -- a cell before the running row that is not the ring's and not the marks'
-    fixed-cell : (k : ℕ) → k < 18 + 4 * y .blocks → (k ≡ ringCell → ⊥) → (k ≡ queuedCell → ⊥) → cell m k ≡ cell m₀ k
+    fixed-cell : (k : ℕ) → k < stateRow (y .blocks) → (k ≡ ringCell → ⊥) → (k ≡ queuedCell → ⊥) → cell m k ≡ cell m₀ k
     fixed-cell k lt a b = f .others k a b (λ e. omega (arith, running-at d y .0))
 
     -- who is reachable
@@ -109,15 +112,10 @@ module _ {d : Direction} {y : Layout} {m₀ : Mem} where
     }
 
 -- as many neighbors as the count says
-edges-long : (side : Side) (m : Mem) (n e : ℕ) → length (edgesFrom side m n e) ≡ n
-unfolding edgesFrom
-edges-long side m zero e = refl
-edges-long side m (suc n) e = ap suc (edges-long side m n (nextOf side m e))
-
 pub neighbors-long : (side : Side) (m : Mem) (b : ℕ) → length (neighbors side m b) ≡ countOf side m b
-unfolding neighborsFrom
-neighbors-long side m b =
-    length-map (edgesFrom side m (countOf side m b) (firstOf side m b)) (endOf side m) ∙ edges-long side m (countOf side m b) (firstOf side m b)
+neighbors-long Successors m b = length-tabulate 0 (word m successorCountCell b) (successorAt m b)
+neighbors-long Predecessors m b =
+    length-map (edgesInto m b) sourceOf ∙ chain-length m (word m predecessorCountCell b) (word m firstEdgeCell b)
 
 -- ---- a block's new row, from scratch that was left alone and from the table of rows
 module _ {d : Direction} {y : Layout} {m₀ m : Mem} (f : Fixed d y m₀ m) where

@@ -2,7 +2,7 @@
 use mathlib.Core.Path.{_≡_, refl, sym, ap, ap₂, _∙_, subst}
 use mathlib.Core.Bool.{Bool, true, false, true≢false, false≢true}
 use mathlib.Core.List.{List, [], _∷_, _++_, map}
-use Prim.Native.Nat.{ℕ, suc, _+_, _*_, _-_, _≤_}
+use Prim.Native.Nat.{ℕ, suc, _+_, _-_, _≤_}
 use native.Mathlib.Omega.{arith}
 use lib.ListN.{length, take, drop, replicate, length-set, length-map, length-append, length-drop, length-replicate}
 use Rattle.dataflow.specs.Worklist as worklist
@@ -15,7 +15,7 @@ use Rattle.budget.specs.Budget.{charged}
 use Rattle.budget.proofs.BudgetLaws.{met-then, over-then, over-not-ok, met-one}
 use Rattle.memory.specs.Cells.{Mem, cell, storeCell}
 use Rattle.memory.specs.Names.{orderCell, queuedCell, reachableCell, ringCell}
-use Rattle.memory.specs.Scratch.{scratchWidths}
+use Rattle.memory.specs.Scratch.{scratchCells, scratchWidths}
 use Rattle.memory.specs.Sets.{setsWidths}
 use Rattle.memory.specs.declared.layout.Layout.{Layout}
 use Rattle.memory.proofs.CellLaws.{Sized, cell-store-same, cell-store-other}
@@ -29,7 +29,7 @@ use Rattle.solver.specs.declared.ring.Ring.{Ring}
 use Rattle.solver.specs.declared.ring.Turn.{Turn}
 use Rattle.solver.specs.declared.ring.Turn.the-variants.{Stop, Done}
 use Rattle.solver.specs.Run.{At, Out, stop, on, atOf, outOf, paid, run, Good, Idle, queueOf, inRing, cleared, seeded, full}
-use Rattle.transfer.proofs.NeighborLaws.{connected-kept}
+use Rattle.memory.proofs.EdgeLaws.{connected-kept}
 use Rattle.solver.proofs.SeedLaws.{queue-length}
 use Rattle.propagate.specs.Rounds.{rowSolver, beginning, roundRun, roundCharges, chargedOf, Seedable, Propagated}
 use Rattle.bitset.proofs.Below.{below-append}
@@ -64,10 +64,10 @@ module _ (d : Direction) {y : Layout} {n : ℕ} {m : Mem} (z : Sized (scratchWid
       ∙ cell-store-other m queuedCell (cell m reachableCell) orderCell (λ e. omega arith)
 
   -- no cell came or went
-  count₁ : length m₁ ≡ 22 + 4 * y .blocks
+  count₁ : length m₁ ≡ scratchCells y
   count₁ = length-set m queuedCell (cell m reachableCell) ∙ z .count ∙ scratch-count y
 
-  count₂ : length m₂ ≡ 22 + 4 * y .blocks
+  count₂ : length m₂ ≡ scratchCells y
   count₂ = length-set m₁ ringCell (replicate (y .blocks) 0) ∙ count₁
 
   -- what the seeding stores into the ring
@@ -87,7 +87,7 @@ module _ (d : Direction) {y : Layout} {n : ℕ} {m : Mem} (z : Sized (scratchWid
       ∙ cell-store-same m queuedCell (cell m reachableCell) (omega (arith, z .count, scratch-count y))
 
   -- no cell came or went
-  count-seeded : length (seeded d y n m) ≡ 22 + 4 * y .blocks
+  count-seeded : length (seeded d y n m) ≡ scratchCells y
   unfolding seeded inRing cleared
   count-seeded = length-set m₂ ringCell (queueOf d (take n (cell m₂ orderCell)) ++ drop n (cell m₂ ringCell)) ∙ count₂
 

@@ -2,7 +2,7 @@
 use mathlib.Core.Path.{_≡_, refl, sym, ap, ap₂, _∙_, subst}
 use mathlib.Core.Bool.{Bool, true, false, not, _&&_}
 use mathlib.Core.List.{List, [], _∷_, _++_, map}
-use Prim.Native.Nat.{ℕ, suc, _+_, _*_, _-_, _≤_, _<_}
+use Prim.Native.Nat.{ℕ, suc, _+_, _-_, _≤_, _<_}
 use native.Mathlib.Omega.{arith}
 use native.Mathlib.Decide.{ℕ-discrete}
 use borrow.Author.Tests.{eq-eqb, ne-eqb}
@@ -14,7 +14,8 @@ use Rattle.dataflow.specs.Search.{unvisited}
 use Rattle.dataflow.proofs.Lists.{map-set}
 use Rattle.dataflow.proofs.Reachability.{unvisited-set}
 use Rattle.memory.specs.Cells.{Mem, cell, word, store, storeCell}
-use Rattle.memory.specs.Names.{queuedCell, reachableCell, ringCell}
+use Rattle.memory.specs.Names.{queuedCell, reachableCell, ringCell, initializedRow}
+use Rattle.memory.specs.Scratch.{scratchCells}
 use Rattle.memory.specs.declared.layout.Layout.{Layout}
 use Rattle.memory.proofs.CellLaws.{cell-store-same, cell-store-other}
 use Rattle.bitset.specs.Below.{AllBelow}
@@ -36,9 +37,9 @@ pub record Simulates (d : Direction) (y : Layout) (m₀ t₀ : Mem) (s : At) (ro
   pub fixed : Fixed d y m₀ (s .mem)
   pub other-sets : (k : ℕ) → ((c : ℕ) → c < y .blocks → k ≡ keptRow d c → ⊥) → cell (s .sets) k ≡ cell t₀ k
   -- the cells are there
-  pub cells : length (s .mem) ≡ 22 + 4 * y .blocks
+  pub cells : length (s .mem) ≡ scratchCells y
   pub ring-long : length (cell (s .mem) ringCell) ≡ y .blocks
-  pub sets-long : 2 * y .blocks ≤ length (s .sets)
+  pub sets-long : initializedRow (y .blocks) ≤ length (s .sets)
   -- they hold the state
   pub table : rows ≡ rowsOf d y (s .sets)
   pub queue : r .queue ≡ ringWords y (cell (s .mem) ringCell) (s .ring .head) (s .ring .count)

@@ -25,11 +25,12 @@ use Rattle.memory.specs.Names.{ringCell}
 use Rattle.memory.specs.declared.layout.Layout.{Layout}
 use Rattle.memory.proofs.CellLaws.{cell-store-same}
 use Rattle.transfer.specs.declared.direction.Direction.{Direction}
-use Rattle.transfer.specs.Neighbors.{readsOf, dependentsOf, neighbors, Connected}
+use Rattle.memory.specs.Edges.{neighbors, Connected}
+use Rattle.transfer.specs.Directions.{readsOf, dependentsOf}
 use Rattle.transfer.specs.Transfer.{runningRow, keptRow, computed}
 use Rattle.solver.specs.Run.{At, Out, on, atOf, paid, onward, popped, offered, told, settled, visitCharge, firstIn, unmarked, withComputed, visited}
 use Rattle.solver.specs.Run.{run}
-use Rattle.transfer.proofs.NeighborLaws.{count-kept, neighbors-kept}
+use Rattle.memory.proofs.EdgeLaws.{count-kept, neighbors-kept}
 use Rattle.transfer.proofs.TransferLaws.{running-at}
 use Rattle.propagate.specs.Rounds.{rowSolver}
 use Rattle.propagate.proofs.RingWords.{ring-none}

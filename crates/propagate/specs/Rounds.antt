@@ -22,7 +22,8 @@ use Rattle.transfer.specs.declared.direction.Direction.{Direction}
 use Rattle.transfer.specs.declared.direction.Direction.the-variants.{Initialization, Liveness}
 use Rattle.solver.specs.declared.ring.Turn.{Turn}
 use Rattle.solver.specs.declared.ring.Turn.the-variants.{Stop, Done}
-use Rattle.transfer.specs.Neighbors.{readsOf, dependentsOf, neighbors, Connected}
+use Rattle.memory.specs.Edges.{neighbors, Connected}
+use Rattle.transfer.specs.Directions.{readsOf, dependentsOf}
 use Rattle.transfer.specs.Transfer.{runningRow, keptRow, entryOf, transferred}
 use Rattle.solver.specs.Run.{queueOf}
 

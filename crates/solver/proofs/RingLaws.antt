@@ -9,14 +9,14 @@ use lib.ListN.{length, getD, set, length-set}
 use lib.Seq.{getD-set-same, getD-set-other}
 use Rattle.dataflow.specs.Lists.{sum}
 use Rattle.memory.specs.Cells.{Mem, cell, word, store, storeCell}
-use Rattle.memory.specs.Names.{queuedCell, reachableCell, ringCell}
+use Rattle.memory.specs.Names.{queuedCell, reachableCell, ringCell, firstRow}
 use Rattle.memory.specs.Scratch.{scratchWidths}
 use Rattle.memory.specs.declared.layout.Layout.{Layout}
 use Rattle.memory.proofs.CellLaws.{Sized, cell-store-same, cell-store-other}
 use Rattle.memory.proofs.ScratchLaws.{sized-among, sized-blocks}
 use Rattle.solver.specs.declared.ring.Ring.{Ring}
 use Rattle.solver.specs.Run.{At, atOf, wrap, pushed, offered, popped, Good, Offers}
-use Rattle.transfer.proofs.NeighborLaws.{SameEdges, same-none, same-stored, same-then, connected-kept}
+use Rattle.memory.proofs.EdgeLaws.{SameEdges, same-cell, same-row, same-none, same-then, connected-kept}
 
 -- ---- sums of marks
 
@@ -59,9 +59,9 @@ wrap-lt y i h = go (decLt i (y .blocks))
     go (no n) = rw (wrap-past y i (omega arith)) (omega arith)
 
 -- ---- a store into a row
-pub good-row : (y : Layout) (m : Mem) {m′ : Mem} (k : ℕ) (x : List ℕ) (g : Ring) → 18 ≤ k → m′ ≡ storeCell m k x → Good y m g → Good y m′ g
+pub good-row : (y : Layout) (m : Mem) {m′ : Mem} (k : ℕ) (x : List ℕ) (g : Ring) → firstRow ≤ k → m′ ≡ storeCell m k x → Good y m g → Good y m′ g
 good-row y m k x g lo e h = rw e record {
-  connected = connected-kept (same-stored m k x (omega arith) (λ q. omega arith) (λ q. omega arith)) y (h .connected);
+  connected = connected-kept (same-row m k x lo) y (h .connected);
   head = h .head;
   count = rw (cell-store-other m k x queuedCell (λ q. omega arith)) (h .count);
   marks = rw (cell-store-other m k x queuedCell (λ q. omega arith)) (h .marks);
@@ -101,8 +101,8 @@ module _ (y : Layout) (m : Mem) (z : Sized (scratchWidths y) m) where
   pub pushed-edges : (t : Mem) (g : Ring) (d : ℕ) → SameEdges m (pushed y d (atOf m t g) .mem)
   unfolding pushed
   pushed-edges t g d =
-      same-then (same-stored m queuedCell (set (cell m queuedCell) d 1) (omega arith) (λ q. omega arith) (λ q. omega arith))
-      (same-stored (store m queuedCell d 1) ringCell _ (omega arith) (λ q. omega arith) (λ q. omega arith))
+      same-then (same-cell m queuedCell (set (cell m queuedCell) d 1) (omega arith) refl refl refl refl refl)
+      (same-cell (store m queuedCell d 1) ringCell _ (omega arith) refl refl refl refl refl)
 
   -- one mark more, and one block more that waits
   pub pushed-good : (t : Mem) (g : Ring) (d : ℕ) → d < y .blocks → word m queuedCell d ≡ 0 → Good y m g
@@ -132,7 +132,7 @@ module _ (y : Layout) (m : Mem) (z : Sized (scratchWidths y) m) where
   -- ---- the first block leaves the ring, its mark with it
   pub popped-good : (g : Ring) (b : ℕ) → b < y .blocks → Good y m g → Good y (store m queuedCell b 0) (popped y g)
   popped-good g b hb h = record {
-    connected = connected-kept (same-stored m queuedCell _ (omega arith) (λ e. omega arith) (λ e. omega arith)) y (h .connected);
+    connected = connected-kept (same-cell m queuedCell _ (omega arith) refl refl refl refl refl) y (h .connected);
     head = wrap-lt y (g .head + 1) (omega (arith, h .head));
     count = rw queued (omega (arith, h .count, h .marks b, sum-set q b 0 (omega (arith, marks-long))));
     marks = rw queued (set-all (λ j v. v ≤ 1) q b 0 (h .marks) (omega arith) (omega (arith, marks-long)));

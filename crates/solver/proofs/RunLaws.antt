@@ -1,7 +1,7 @@
 -- The run in steps: those who are told, a visit, and the visits until no block waits. Assumes nothing.
 use mathlib.Core.Path.{_≡_, refl, sym, ap, ap₂, _∙_, subst}
 use mathlib.Core.Bool.{true, false}
-use mathlib.Core.List.{List, [], _∷_}
+use mathlib.Core.List.{List, [], _∷_, map}
 use Prim.Native.Nat.{ℕ, zero, suc, _+_, _*_, _-_, _^_, _≤_, _<_}
 use native.Mathlib.Omega.{arith}
 use native.Mathlib.Nat.{mul-le-mul}
@@ -13,22 +13,22 @@ use Rattle.budget.specs.declared.Charged.{Charged}
 use Rattle.budget.specs.declared.Charged.the-variants.{Ok, Over}
 use Rattle.budget.specs.Budget.{charged}
 use Rattle.budget.proofs.BudgetLaws.{met-one}
-use Rattle.memory.specs.Scratch.{edgeWords}
 use Rattle.memory.specs.Cells.{Mem, cell, word, store, storeCell}
-use Rattle.memory.specs.Names.{queuedCell, ringCell}
-use Rattle.memory.specs.Scratch.{scratchWidths}
+use Rattle.memory.specs.Names.{successorCountCell, queuedCell, ringCell}
+use Rattle.memory.specs.Scratch.{edgeWords, scratchWidths}
 use Rattle.memory.specs.declared.layout.Layout.{Layout}
 use Rattle.memory.proofs.CellLaws.{Sized}
 use Rattle.transfer.specs.declared.direction.Direction.{Direction}
-use Rattle.transfer.specs.declared.direction.Side.{Side}
 use Rattle.solver.specs.declared.ring.Ring.{Ring}
 use Rattle.solver.specs.declared.ring.Turn.{Turn}
 use Rattle.solver.specs.declared.ring.Turn.the-variants.{Stop, Done}
-use Rattle.transfer.specs.Neighbors.{dependentsOf, countOf, firstOf, nextOf, endOf, neighborsFrom, neighbors}
+use Rattle.memory.specs.Edges.{successorAt, sourceOf, nextEdge, chainFrom, neighbors, Connected}
+use Rattle.transfer.specs.Directions.{dependentsOf}
 use Rattle.transfer.specs.Transfer.{runningRow, keptRow, computed}
 use Rattle.solver.specs.Run.{At, Out, stop, on, atOf, outOf, paid, onward, offered, told, settled, popped, visitCharge, visited, run}
 use Rattle.solver.specs.Run.{Good, Went, Offers, Tells, wrap}
-use Rattle.transfer.proofs.NeighborLaws.{SameEdges, same-none, same-then, end-kept, next-kept, ends-more, ends-over, Walk, walk-end, walk-more}
+use Rattle.memory.proofs.EdgeLaws.{SameEdges, same-none, same-then, at-kept, next-kept}
+use Rattle.memory.proofs.EdgeLaws.{successorsFrom, successors-more, successor-block, chain-more}
 use Rattle.transfer.proofs.TransferLaws.{running-at}
 use Rattle.solver.proofs.RingLaws.{Kept, good-row, popped-good, offers-kept}
 
@@ -37,91 +37,82 @@ pub charge-met : (l : Limits) (b : FlowBudget) (n : ℕ) {b′ : FlowBudget} →
     → (b′ .work ≡ b .work + n) × (b′ .work ≤ l .work)
 charge-met l b n lim e = omega (arith, met-one l b n e)
 
--- ---- those who are told: k of n are, e is the next edge; the words are m, the ring is g and b is left
-module _ (y : Layout) (l : Limits) (m₀ : Mem) (g₀ : Ring) (b₀ : FlowBudget) (side : Side) (n e₀ : ℕ) where
-  pub record Telling (k e : ℕ) (m : Mem) (g : Ring) (b : FlowBudget) : Type 0 where
+-- ---- those who are told: of `es` those of `ds` are left; the words are m, the ring is g and b is left
+module _ (y : Layout) (l : Limits) (m₀ : Mem) (g₀ : Ring) (b₀ : FlowBudget) (es : List ℕ) where
+  pub record Telling (ds : List ℕ) (m : Mem) (g : Ring) (b : FlowBudget) : Type 0 where
     pub edges : SameEdges m₀ m
-    pub walk : Walk y side m₀ n k e
     pub good : Good y m g
     pub low : b₀ .work ≤ b .work
     pub high : b .work ≤ l .work
-    pub same : (t : Mem) → told y l (neighborsFrom side m₀ (n - k) e) (atOf m t g) b ≡ told y l (neighborsFrom side m₀ n e₀) (atOf m₀ t g₀) b₀
+    pub same : (t : Mem) → told y l ds (atOf m t g) b ≡ told y l es (atOf m₀ t g₀) b₀
 
-module _ {y : Layout} {l : Limits} {m₀ : Mem} {g₀ : Ring} {b₀ : FlowBudget} {side : Side} {n e₀ : ℕ} where
+module _ {y : Layout} {l : Limits} {m₀ : Mem} {g₀ : Ring} {b₀ : FlowBudget} {es ds : List ℕ} where
   -- before the first
-  pub telling-none : Walk y side m₀ n 0 e₀ → Good y m₀ g₀ → b₀ .work ≤ l .work → Telling y l m₀ g₀ b₀ side n e₀ 0 e₀ m₀ g₀ b₀
-  telling-none w h lim =
-      let z : n - 0 ≡ n = omega arith in
-      record { edges = same-none m₀; walk = w; good = h; low = omega arith; high = lim; same = λ t. rw z refl }
+  pub telling-none : ds ≡ es → Good y m₀ g₀ → b₀ .work ≤ l .work → Telling y l m₀ g₀ b₀ es ds m₀ g₀ b₀
+  telling-none e h lim = record {
+    edges = same-none m₀;
+    good = h;
+    low = omega arith;
+    high = lim;
+    same = λ t. ap (λ (cs : List ℕ). told y l cs (atOf m₀ t g₀) b₀) e;
+  }
 
-  module _ {k e : ℕ} {m : Mem} {g : Ring} {b : FlowBudget} (r : Telling y l m₀ g₀ b₀ side n e₀ k e m g b) where
-    -- the block at the other end is one
-    pub telling-to : k < n → {p : ℕ} → p ≡ endOf side m e → p < y .blocks
-    telling-to h q = rw (q ∙ end-kept (r .edges) side e) (walk-end h (r .walk))
-
-    module _ (h : k < n) (t : Mem) where
-      abbrev next : List ℕ
-      next = neighborsFrom side m₀ (n - (k + 1)) (nextOf side m₀ e)
-
-      -- what is left to tell begins with a charge
-      paying : paid (charged l b (1 ∷ [])) (λ b′. told y l next (offered y (endOf side m₀ e) (atOf m t g)) b′)
-          ≡ told y l (neighborsFrom side m₀ n e₀) (atOf m₀ t g₀) b₀
-      unfolding told
-      paying = sym (ap (λ (ds : List ℕ). told y l ds (atOf m t g) b) (ends-more side m₀ n k e h)) ∙ r .same t
+  module _ {m : Mem} {g : Ring} {b : FlowBudget} (r : Telling y l m₀ g₀ b₀ es ds m g b) where
+    -- what is left to tell begins with a charge
+    paying : {d : ℕ} {cs : List ℕ} → ds ≡ d ∷ cs → (t : Mem)
+        → paid (charged l b (1 ∷ [])) (λ b′. told y l cs (offered y d (atOf m t g)) b′) ≡ told y l es (atOf m₀ t g₀) b₀
+    unfolding told
+    paying e t = sym (ap (λ (xs : List ℕ). told y l xs (atOf m t g) b) e) ∙ r .same t
 
     -- the charge was met, and the block was offered
-    pub telling-more : l .work < 2 ^ 64 - 1 → Sized (scratchWidths y) m → k < n → {b′ : FlowBudget} {p e′ : ℕ} {m′ : Mem} {g′ : Ring}
-        → charged l b (1 ∷ []) ≡ Ok b′ → p ≡ endOf side m e → e′ ≡ nextOf side m e → Offers y p m g m′ g′
-        → Telling y l m₀ g₀ b₀ side n e₀ (k + 1) e′ m′ g′ b′
-    telling-more lim z h {b′} {p} {e′} {m′} {g′} ec ep ee o = record {
+    pub telling-more : l .work < 2 ^ 64 - 1 → Sized (scratchWidths y) m → {d : ℕ} {cs : List ℕ} {b′ : FlowBudget} {m′ : Mem} {g′ : Ring}
+        → ds ≡ d ∷ cs → d < y .blocks → charged l b (1 ∷ []) ≡ Ok b′ → Offers y d m g m′ g′ → Telling y l m₀ g₀ b₀ es cs m′ g′ b′
+    telling-more lim z {d} {cs} {b′} {m′} {g′} e hd ec o = record {
       edges = same-then (r .edges) (kept .edges);
-      walk = walk-more h (r .walk) then;
       good = kept .good;
       low = omega (arith, met, r .low);
       high = met .1;
       same = λ t.
-          ap (λ (i : ℕ). told y l (neighborsFrom side m₀ (n - (k + 1)) i) (atOf m′ t g′) b′) then
-          ∙ ap (λ (s : At). told y l (next h t) s b′) (o t ∙ ap (λ (i : ℕ). offered y i (atOf m t g)) at)
-          ∙ sym (ap (λ (c : Charged). paid c (λ x. told y l (next h t) (offered y (endOf side m₀ e) (atOf m t g)) x)) ec)
-          ∙ paying h t;
+          ap (λ (s : At). told y l cs s b′) (o t)
+          ∙ sym (ap (λ (c : Charged). paid c (λ x. told y l cs (offered y d (atOf m t g)) x)) ec) ∙ paying e t;
     }
       where
         met : (b′ .work ≡ b .work + 1) × (b′ .work ≤ l .work)
         met = charge-met l b 1 lim ec
 
         kept : Kept y m (atOf m′ [] g′)
-        kept = offers-kept y m z (telling-to h ep) (r .good) o
+        kept = offers-kept y m z hd (r .good) o
 
-        then : e′ ≡ nextOf side m₀ e
-        then = ee ∙ next-kept (r .edges) side e
+    -- the charge crossed the limit
+    pub telling-over : {d : ℕ} {cs : List ℕ} {x : FlowBudget} {o : Turn} → ds ≡ d ∷ cs → charged l b (1 ∷ []) ≡ Over x → o ≡ Stop x
+        → Tells y l es m₀ g₀ b₀ m o
+    telling-over {d} {cs} e ec eo = λ t.
+        rw eo (sym (ap (λ (a : Charged). paid a (λ z. told y l cs (offered y d (atOf m t g)) z)) ec) ∙ paying e t, tt)
 
-        at : p ≡ endOf side m₀ e
-        at = ep ∙ end-kept (r .edges) side e
+    -- all are told
+    pub telling-all : ds ≡ [] → Tells y l es m₀ g₀ b₀ m (Done g b)
+    unfolding told
+    telling-all e = λ t. (
+      sym (ap (λ (xs : List ℕ). told y l xs (atOf m t g) b) e) ∙ r .same t,
+      (r .good, r .low, r .high),
+    )
 
-    -- whom a change of block c concerns
-    module _ (d : Direction) (c : ℕ) (es : side ≡ dependentsOf d) (en : n ≡ countOf side m₀ c) (ee : e₀ ≡ firstOf side m₀ c) where
-      -- they are all its edges on that side
-      whole : neighborsFrom side m₀ n e₀ ≡ neighbors (dependentsOf d) m₀ c
-      whole = ap₂ (neighborsFrom side m₀) en ee ∙ ap (λ (a : Side). neighbors a m₀ c) es
+-- ---- who is the next of n, k of whom are told; the edges of m are those of m₀
+module _ {m₀ m : Mem} (s : SameEdges m₀ m) (n k : ℕ) (h : k < n) where
+  -- a successor of block c
+  pub next-successor : (c : ℕ) {d : ℕ} → d ≡ successorAt m c k → successorsFrom m₀ c n k ≡ d ∷ successorsFrom m₀ c n (k + 1)
+  next-successor c e = successors-more m₀ c n k h ∙ ap (λ (x : ℕ). x ∷ successorsFrom m₀ c n (k + 1)) (sym (e ∙ at-kept s c k))
 
-      -- the charge crossed the limit
-      pub telling-over : k < n → {x : FlowBudget} {o : Turn} → charged l b (1 ∷ []) ≡ Over x → o ≡ Stop x
-          → Tells y l (neighbors (dependentsOf d) m₀ c) m₀ g₀ b₀ m o
-      telling-over h {x} ec eo = λ t.
-          rw eo (
-            sym (ap (λ (a : Charged). paid a (λ z. told y l (next h t) (offered y (endOf side m₀ e) (atOf m t g)) z)) ec) ∙ paying h t
-                ∙ ap (λ (ds : List ℕ). told y l ds (atOf m₀ t g₀) b₀) whole,
-            tt,
-          )
+  -- is a block
+  pub successor-is-block : {y : Layout} {c : ℕ} → Connected y m₀ → c < y .blocks → n ≡ word m₀ successorCountCell c → successorAt m c k < y .blocks
+  successor-is-block {c = c} w hc en = rw (at-kept s c k) (successor-block w c hc k (omega arith))
 
-      -- all are told
-      pub telling-all : n ≤ k → Tells y l (neighbors (dependentsOf d) m₀ c) m₀ g₀ b₀ m (Done g b)
-      unfolding told
-      telling-all h = λ t. (
-        sym (ap (λ (ds : List ℕ). told y l ds (atOf m t g) b) (ends-over side m₀ n k e h)) ∙ r .same t
-            ∙ ap (λ (ds : List ℕ). told y l ds (atOf m₀ t g₀) b₀) whole,
-        (r .good, r .low, r .high),
-      )
+  -- the source of edge e of a chain
+  pub next-source : (e : ℕ) {d f : ℕ} → d ≡ sourceOf e → f ≡ nextEdge m e
+      → map sourceOf (chainFrom m₀ (n - k) e) ≡ d ∷ map sourceOf (chainFrom m₀ (n - (k + 1)) f)
+  next-source e ed ef =
+      ap (map sourceOf) (chain-more m₀ n k e h)
+      ∙ ap₂ (λ (x j : ℕ). x ∷ map sourceOf (chainFrom m₀ (n - (k + 1)) j)) (sym ed) (sym (ef ∙ next-kept s e))
 
 -- ---- the running row against the one that is kept
 module _ (d : Direction) (y : Layout) (l : Limits) (c : ℕ) (m t : Mem) (g : Ring) (b : FlowBudget) where

@@ -20,7 +20,8 @@ use Rattle.transfer.specs.declared.direction.Direction.the-variants.{Initializa
 use Rattle.solver.specs.declared.ring.Ring.{Ring}
 use Rattle.solver.specs.declared.ring.Turn.{Turn}
 use Rattle.solver.specs.declared.ring.Turn.the-variants.{Stop, Done}
-use Rattle.transfer.specs.Neighbors.{readsOf, dependentsOf, countOf, neighbors, Connected}
+use Rattle.memory.specs.Edges.{countOf, neighbors, Connected}
+use Rattle.transfer.specs.Directions.{readsOf, dependentsOf}
 use Rattle.transfer.specs.Transfer.{runningRow, keptRow, computed}
 
 -- both buffers, with the ring's place

@@ -5,11 +5,11 @@ use crate::ring::Turn;
 use budget::Charged;
 use budget::FlowBudget;
 use budget::Limits;
+use memory::edges;
 use memory::layout;
 use memory::layout::Layout;
 use transfer::compute;
 use transfer::direction::Direction;
-use transfer::neighbors;
 ghost use mathlib.Core.Path.{_≡_};
 ghost use mathlib.Core.List.{[], _∷_};
 ghost use Prim.Native.Nat.{_+_, _*_, _-_, _^_, _≤_, _<_};
@@ -17,7 +17,9 @@ ghost use lib.ListN.{length};
 ghost use Rattle.budget.specs.Budget.{charged};
 ghost use Rattle.memory.specs.Scratch.{scratch, Room};
 ghost use Rattle.memory.specs.Sets.{sets, SetsRoom};
-ghost use Rattle.transfer.specs.Neighbors.{dependentsOf, neighbors, Connected};
+ghost use Rattle.memory.specs.declared.edges.Side.the-variants.{Successors, Predecessors};
+ghost use Rattle.memory.specs.Edges.{neighbors, Connected};
+ghost use Rattle.transfer.specs.Directions.{dependentsOf};
 ghost use Rattle.solver.specs.Run.{atOf, outOf, Tells, settled, visitCharge, visited, run, Good, Went, Idle};
 
 // A charge and an offer for each block that a change concerns.
@@ -33,11 +35,27 @@ fn tell(
     requires { ⌜ Room y (length (now s)) × (block < y .blocks) × Good y (scratch y (now s)) from × (budget .work ≤ limits .work) × (limits .work < 2 ^ 64 - 1) ⌝ }
     ensures { λ r. ⌜ Tells y limits (neighbors (dependentsOf d) (scratch y (now (s .entry))) block) (scratch y (now (s .entry))) from budget (scratch y (now (s .exit))) r ⌝ }
 {
-    let side = d.dependents();
-    let n = neighbors::count(s, y, side, block) as usize;
+    match d {
+        Direction::Initialization => tell_successors(s, y, from, block, limits, budget),
+        Direction::Liveness => tell_predecessors(s, y, from, block, limits, budget),
+    }
+}
+
+// For each successor of a block.
+fn tell_successors(
+    s: &mut [u64],
+    y: Layout,
+    from: Ring,
+    block: usize,
+    limits: Limits,
+    budget: FlowBudget,
+) -> Turn
+    requires { ⌜ Room y (length (now s)) × (block < y .blocks) × Good y (scratch y (now s)) from × (budget .work ≤ limits .work) × (limits .work < 2 ^ 64 - 1) ⌝ }
+    ensures { λ r. ⌜ Tells y limits (neighbors Successors (scratch y (now (s .entry))) block) (scratch y (now (s .entry))) from budget (scratch y (now (s .exit))) r ⌝ }
+{
+    let n = memory::scratch::get(s, y, layout::SUCCESSOR_COUNT, block) as usize;
     let mut g = from;
     let mut left = budget;
-    let mut edge = neighbors::first(s, y, side, block) as usize;
     let mut k = 0;
     while k < n {
         let c = left.charge(1, limits);
@@ -45,8 +63,38 @@ fn tell(
             return Turn::Stop(c.budget());
         };
         left = b;
-        let to = neighbors::end(s, y, side, edge) as usize;
-        edge = neighbors::next(s, y, side, edge) as usize;
+        let to = edges::successor(s, y, block, n, k) as usize;
+        g = ring::offer(s, y, g, to);
+        k += 1;
+    }
+    Turn::Done(g, left)
+}
+
+// For each predecessor of a block.
+fn tell_predecessors(
+    s: &mut [u64],
+    y: Layout,
+    from: Ring,
+    block: usize,
+    limits: Limits,
+    budget: FlowBudget,
+) -> Turn
+    requires { ⌜ Room y (length (now s)) × (block < y .blocks) × Good y (scratch y (now s)) from × (budget .work ≤ limits .work) × (limits .work < 2 ^ 64 - 1) ⌝ }
+    ensures { λ r. ⌜ Tells y limits (neighbors Predecessors (scratch y (now (s .entry))) block) (scratch y (now (s .entry))) from budget (scratch y (now (s .exit))) r ⌝ }
+{
+    let n = memory::scratch::get(s, y, layout::PREDECESSOR_COUNT, block) as usize;
+    let mut g = from;
+    let mut left = budget;
+    let mut edge = memory::scratch::get(s, y, layout::FIRST_EDGE, block) as usize;
+    let mut k = 0;
+    while k < n {
+        let c = left.charge(1, limits);
+        let Charged::Ok(b) = c else {
+            return Turn::Stop(c.budget());
+        };
+        left = b;
+        let to = edges::source(edge);
+        edge = edges::next(s, y, edge) as usize;
         g = ring::offer(s, y, g, to);
         k += 1;
     }
@@ -88,8 +136,8 @@ fn charge_visit(
     requires { ⌜ Room y (length (now s)) × (block < y .blocks) × Connected y (scratch y (now s)) ⌝ }
     ensures { λ r. ⌜ r ≡ charged limits budget (visitCharge d y (scratch y (now (s .entry))) block ∷ []) ⌝ }
 {
-    let edges = neighbors::count(s, y, d.reads(), block);
-    budget.charge(y.words as u64 * (edges + 3) + 1, limits)
+    let read = edges::count(s, y, d.reads(), block);
+    budget.charge(y.words as u64 * (read + 3) + 1, limits)
 }
 
 // A visit of the first block of the ring.

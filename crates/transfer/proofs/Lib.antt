@@ -1,3 +1,2 @@
--- Laws of a block's edges, and of what a visit computes.
-pub mod NeighborLaws
+-- Laws of what a visit computes.
 pub mod TransferLaws

@@ -1,3 +1,3 @@
 -- What a visit computes from a block's neighbors.
-pub mod Neighbors
+pub mod Directions
 pub mod Transfer

@@ -10,7 +10,8 @@ use Rattle.memory.specs.Names.{reachableCell, usesRow, definesRow, stateRow, li
 use Rattle.memory.specs.declared.layout.Layout.{Layout}
 use Rattle.transfer.specs.declared.direction.Direction.{Direction}
 use Rattle.transfer.specs.declared.direction.Direction.the-variants.{Initialization, Liveness}
-use Rattle.transfer.specs.Neighbors.{readsOf, neighbors}
+use Rattle.memory.specs.Edges.{neighbors}
+use Rattle.transfer.specs.Directions.{readsOf}
 
 -- the row in which a round computes
 abbrev pub runningRow : Direction → Layout → ℕ

@@ -1,18 +1,20 @@
 // What a visit computes.
 use crate::direction::Direction;
-use crate::direction::Side;
-use crate::neighbors;
+use memory::edges;
 use memory::layout;
 use memory::layout::Layout;
 ghost use mathlib.Core.Path.{_≡_};
-ghost use Prim.Native.Nat.{_<_, _≤_};
+ghost use mathlib.Core.List.{map};
+ghost use Prim.Native.Nat.{_+_, _-_, _<_, _≤_};
 ghost use lib.ListN.{length, replicate};
 ghost use Rattle.bitset.specs.Sets.{ones};
-ghost use Rattle.memory.specs.Cells.{cell, storeCell};
+ghost use Rattle.dataflow.specs.Lists.{tabulate};
+ghost use Rattle.memory.specs.Cells.{cell, word, storeCell};
+ghost use Rattle.memory.specs.Names.{successorCountCell};
+ghost use Rattle.memory.specs.Edges.{successorAt, sourceOf, nextEdge, chainFrom, Chain, Connected};
 ghost use Rattle.memory.specs.Scratch.{scratch, Room};
 ghost use Rattle.memory.specs.Sets.{sets, SetsRoom};
 ghost use Rattle.transfer.specs.declared.direction.Direction.the-variants.{Initialization, Liveness};
-ghost use Rattle.transfer.specs.Neighbors.{readsOf, nextOf, neighborsFrom, Behind, Connected};
 ghost use Rattle.transfer.specs.Transfer.{runningRow, keptRow, entryOf, gatherOne, gatherAll, gathered, transferred, computed};
 
 // The cell of the running row.
@@ -37,17 +39,6 @@ pub fn kept(y: Layout, d: Direction, block: usize) -> usize
     }
 }
 
-// The running row becomes what a block begins with.
-fn begin(s: &mut [u64], y: Layout, d: Direction, block: usize)
-    requires { ⌜ Room y (length (now s)) ⌝ }
-    ensures { λ _. ⌜ scratch y (now (s .exit)) ≡ storeCell (scratch y (now (s .entry))) (runningRow d y) (entryOf d y (scratch y (now (s .entry))) block) ⌝ }
-{
-    match d {
-        Direction::Initialization => begin_initialized(s, y, block),
-        Direction::Liveness => rows::fill(s, y, y.live_state(), 0),
-    }
-}
-
 // The parameters at block 0, all slots at another.
 fn begin_initialized(s: &mut [u64], y: Layout, block: usize)
     requires { ⌜ Room y (length (now s)) ⌝ }
@@ -60,35 +51,13 @@ fn begin_initialized(s: &mut [u64], y: Layout, block: usize)
     rows::fill(s, y, y.state(), 18446744073709551615);
 }
 
-// The running row takes in what a neighbor keeps.
-fn gather_one(s: &mut [u64], t: &[u64], y: Layout, d: Direction, block: usize)
-    requires { ⌜ Room y (length (now s)) × SetsRoom y (length (now t)) × (block < y .blocks) ⌝ }
-    ensures { λ _. ⌜ scratch y (now (s .exit)) ≡ storeCell (scratch y (now (s .entry))) (runningRow d y) (gatherOne d (scratch y (now (s .entry))) (sets y (now (t .entry))) block (cell (scratch y (now (s .entry))) (runningRow d y))) ⌝ }
-{
-    match d {
-        Direction::Initialization => meet_one(s, t, y, block),
-        Direction::Liveness => rows::join_from(s, y, y.live_state(), t, y.live(block)),
-    }
-}
-
-// It keeps what is initialized at the exit of a predecessor that is reachable.
+// The running row keeps what is initialized at the exit of a predecessor that is reachable.
 fn meet_one(s: &mut [u64], t: &[u64], y: Layout, block: usize)
     requires { ⌜ Room y (length (now s)) × SetsRoom y (length (now t)) × (block < y .blocks) ⌝ }
     ensures { λ _. ⌜ scratch y (now (s .exit)) ≡ storeCell (scratch y (now (s .entry))) (runningRow Initialization y) (gatherOne Initialization (scratch y (now (s .entry))) (sets y (now (t .entry))) block (cell (scratch y (now (s .entry))) (runningRow Initialization y))) ⌝ }
 {
     if memory::scratch::get(s, y, layout::REACHABLE, block) != 0 {
         rows::meet_from(s, y, y.state(), t, y.initialized(block));
-    }
-}
-
-// The running row becomes what a block begins with and takes in what its first neighbor keeps.
-fn begin_with(s: &mut [u64], t: &[u64], y: Layout, d: Direction, block: usize, from: usize)
-    requires { ⌜ Room y (length (now s)) × SetsRoom y (length (now t)) × (from < y .blocks) ⌝ }
-    ensures { λ _. ⌜ scratch y (now (s .exit)) ≡ storeCell (scratch y (now (s .entry))) (runningRow d y) (gatherOne d (scratch y (now (s .entry))) (sets y (now (t .entry))) from (entryOf d y (scratch y (now (s .entry))) block)) ⌝ }
-{
-    match d {
-        Direction::Initialization => begin_met(s, t, y, block, from),
-        Direction::Liveness => rows::take(s, y, y.live_state(), t, y.live(from)),
     }
 }
 
@@ -117,37 +86,72 @@ fn begin_all(s: &mut [u64], t: &[u64], y: Layout, block: usize)
     rows::take(s, y, y.state(), t, y.initialized(block));
 }
 
-// It takes in what the neighbors at the n edges behind an edge keep.
-fn gather_rest(s: &mut [u64], t: &[u64], y: Layout, d: Direction, first: usize, n: usize)
-    requires { ⌜ Room y (length (now s)) × SetsRoom y (length (now t)) × Behind y (readsOf d) (scratch y (now s)) n first ⌝ }
-    ensures { λ _. ⌜ scratch y (now (s .exit)) ≡ storeCell (scratch y (now (s .entry))) (runningRow d y) (gatherAll d (scratch y (now (s .entry))) (sets y (now (t .entry))) (neighborsFrom (readsOf d) (scratch y (now (s .entry))) n (nextOf (readsOf d) (scratch y (now (s .entry))) first)) (cell (scratch y (now (s .entry))) (runningRow d y))) ⌝ }
+// The running row is met with what the predecessors at the n edges behind an edge keep.
+fn meet_rest(s: &mut [u64], t: &[u64], y: Layout, first: usize, n: usize)
+    requires { ⌜ Room y (length (now s)) × SetsRoom y (length (now t)) × Chain y (scratch y (now s)) (n + 1) 0 first ⌝ }
+    ensures { λ _. ⌜ scratch y (now (s .exit)) ≡ storeCell (scratch y (now (s .entry))) (runningRow Initialization y) (gatherAll Initialization (scratch y (now (s .entry))) (sets y (now (t .entry))) (map sourceOf (chainFrom (scratch y (now (s .entry))) n (nextEdge (scratch y (now (s .entry))) first))) (cell (scratch y (now (s .entry))) (runningRow Initialization y))) ⌝ }
 {
-    let side = d.reads();
     let mut edge = first;
     let mut k = 0;
     while k < n {
-        edge = neighbors::next(s, y, side, edge) as usize;
-        let from = neighbors::end(s, y, side, edge) as usize;
-        gather_one(s, t, y, d, from);
+        edge = edges::next(s, y, edge) as usize;
+        meet_one(s, t, y, edges::source(edge));
         k += 1;
     }
 }
 
-// The running row becomes `incoming` or `live_out` of a block.
+// The running row becomes `incoming` of a block.
+fn incoming(s: &mut [u64], t: &[u64], y: Layout, block: usize)
+    requires { ⌜ Room y (length (now s)) × SetsRoom y (length (now t)) × (block < y .blocks) × Connected y (scratch y (now s)) ⌝ }
+    ensures { λ _. ⌜ scratch y (now (s .exit)) ≡ storeCell (scratch y (now (s .entry))) (runningRow Initialization y) (gathered Initialization y (scratch y (now (s .entry))) (sets y (now (t .entry))) block) ⌝ }
+{
+    let n = memory::scratch::get(s, y, layout::PREDECESSOR_COUNT, block) as usize;
+    if n == 0 {
+        begin_initialized(s, y, block);
+        return;
+    }
+    let first = memory::scratch::get(s, y, layout::FIRST_EDGE, block) as usize;
+    begin_met(s, t, y, block, edges::source(first));
+    meet_rest(s, t, y, first, n - 1);
+}
+
+// The running row is joined with what the successors of a block keep, of which it has n, from the second on.
+fn join_rest(s: &mut [u64], t: &[u64], y: Layout, block: usize, n: usize)
+    requires { ⌜ Room y (length (now s)) × SetsRoom y (length (now t)) × (block < y .blocks) × (n ≡ word (scratch y (now s)) successorCountCell block) × Connected y (scratch y (now s)) ⌝ }
+    ensures { λ _. ⌜ scratch y (now (s .exit)) ≡ storeCell (scratch y (now (s .entry))) (runningRow Liveness y) (gatherAll Liveness (scratch y (now (s .entry))) (sets y (now (t .entry))) (tabulate 1 (n - 1) (successorAt (scratch y (now (s .entry))) block)) (cell (scratch y (now (s .entry))) (runningRow Liveness y))) ⌝ }
+{
+    let mut k = 1;
+    while k < n {
+        let to = edges::successor(s, y, block, n, k) as usize;
+        rows::join_from(s, y, y.live_state(), t, y.live(to));
+        k += 1;
+    }
+}
+
+// The running row becomes `live_out` of a block.
+fn live_out(s: &mut [u64], t: &[u64], y: Layout, block: usize)
+    requires { ⌜ Room y (length (now s)) × SetsRoom y (length (now t)) × (block < y .blocks) × Connected y (scratch y (now s)) ⌝ }
+    ensures { λ _. ⌜ scratch y (now (s .exit)) ≡ storeCell (scratch y (now (s .entry))) (runningRow Liveness y) (gathered Liveness y (scratch y (now (s .entry))) (sets y (now (t .entry))) block) ⌝ }
+{
+    let n = memory::scratch::get(s, y, layout::SUCCESSOR_COUNT, block) as usize;
+    if n == 0 {
+        rows::fill(s, y, y.live_state(), 0);
+        return;
+    }
+    let to = edges::successor(s, y, block, n, 0) as usize;
+    rows::take(s, y, y.live_state(), t, y.live(to));
+    join_rest(s, t, y, block, n);
+}
+
+// The running row becomes what a block gathers from its neighbors.
 pub fn gather(s: &mut [u64], t: &[u64], y: Layout, d: Direction, block: usize)
     requires { ⌜ Room y (length (now s)) × SetsRoom y (length (now t)) × (block < y .blocks) × Connected y (scratch y (now s)) ⌝ }
     ensures { λ _. ⌜ scratch y (now (s .exit)) ≡ storeCell (scratch y (now (s .entry))) (runningRow d y) (gathered d y (scratch y (now (s .entry))) (sets y (now (t .entry))) block) ⌝ }
 {
-    let side = d.reads();
-    let n = neighbors::count(s, y, side, block) as usize;
-    if n == 0 {
-        begin(s, y, d, block);
-        return;
+    match d {
+        Direction::Initialization => incoming(s, t, y, block),
+        Direction::Liveness => live_out(s, t, y, block),
     }
-    let edge = neighbors::first(s, y, side, block) as usize;
-    let from = neighbors::end(s, y, side, edge) as usize;
-    begin_with(s, t, y, d, block, from);
-    gather_rest(s, t, y, d, edge, n - 1);
 }
 
 // The running row goes through the block.

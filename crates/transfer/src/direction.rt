@@ -1,19 +1,13 @@
-// The direction of a round, and the edges of a block that it goes along.
+// The direction of a round.
+use memory::edges::Side;
+ghost use mathlib.Core.Path.{_≡_};
+ghost use Rattle.transfer.specs.Directions.{readsOf};
 
 // `Direction` of solver.rs.
 pub enum Direction {
     Initialization,
     Liveness,
 }
-
-// The edges that leave a block, or those that lead to it.
-pub enum Side {
-    Successors,
-    Predecessors,
-}
-
-ghost use mathlib.Core.Path.{_≡_};
-ghost use Rattle.transfer.specs.Neighbors.{readsOf, dependentsOf};
 
 impl Direction {
     // Along which edges a visit reads sets.
@@ -23,16 +17,6 @@ impl Direction {
         match self {
             Direction::Initialization => Side::Predecessors,
             Direction::Liveness => Side::Successors,
-        }
-    }
-
-    // Along which edges a change is told.
-    pub fn dependents(self) -> Side
-        ensures { λ r. ⌜ r ≡ dependentsOf self ⌝ }
-    {
-        match self {
-            Direction::Initialization => Side::Successors,
-            Direction::Liveness => Side::Predecessors,
         }
     }
 }

@@ -35,7 +35,7 @@ get-requires c κs =
     let args = c .before .before .before .args in
     let pre = c .before .before .before .pre in
     let loop = c .before .loop in
-    (pre .0, place-instructions (args .y) 3 (loop .pc - 1) (omega arith) (omega (arith, c .loop-test .taken, loop .inv .1, pre .2)))
+    (pre .0, place-instructions (args .y) costCell (loop .pc - 1) (omega arith) (omega (arith, c .loop-test .taken, loop .inv .1, pre .2)))
 
 charge-requires : tie.Need-charge-requires Inv-loop μ-loop
 charge-requires c κs = search needs

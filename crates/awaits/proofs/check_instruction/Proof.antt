@@ -4,7 +4,7 @@ use Prim.Native.Nat.{ℕ, _^_, _<_}
 use native.Mathlib.Omega.{arith}
 use denote.Ref.{now}
 use lib.ListN.{length, getD}
-use Rattle.memory.specs.Names.{liveStateRow, hostsRow}
+use Rattle.memory.specs.Names.{offsetCell, costCell, liveStateRow, hostsRow}
 use Rattle.memory.specs.Scratch.{scratch, Room, Row}
 use Rattle.memory.specs.Sets.{sets}
 use Rattle.memory.proofs.ScratchLaws.{scratch-length, row-length, row-words, place-instructions}
@@ -23,7 +23,7 @@ get-requires : tie.Need-get-requires
 get-requires c κs =
     let args = c .before .before .before .before .before .args in
     let pre = c .before .before .before .before .before .pre in
-    (pre .0, place-instructions (args .y) 3 (args .pc) (omega arith) (pre .3))
+    (pre .0, place-instructions (args .y) costCell (args .pc) (omega arith) (pre .3))
 
 charge-requires : tie.Need-charge-requires
 charge-requires c κs = search needs
@@ -54,7 +54,7 @@ get-requires-2 : tie.Need-get-requires-2
 get-requires-2 c κs =
     let args = c .before .before .before .before .before .before .before .before .before .before .before .args in
     let pre = c .before .before .before .before .before .before .before .before .before .before .before .pre in
-    (pre .0, place-instructions (args .y) 0 (args .pc) (omega arith) (pre .3))
+    (pre .0, place-instructions (args .y) offsetCell (args .pc) (omega arith) (pre .3))
 
 instruction-at-requires : tie.Need-instruction-at-requires
 instruction-at-requires c κs =

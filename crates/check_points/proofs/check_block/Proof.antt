@@ -1,6 +1,7 @@
 -- `check_points::check_block` meets its contract: the word REACHABLE is the mark. Assumes nothing.
 use native.Mathlib.Omega.{arith}
 use borrow.Author.Needs.{needs}
+use Rattle.memory.specs.Names.{reachableCell}
 use Rattle.memory.proofs.ScratchLaws.{place-blocks}
 use Rattle.check_points.proofs.CheckedLaws.{is-reached, block-passed}
 use Rattle.check_points.proofs.check_block.Statement.{statement}
@@ -10,7 +11,7 @@ get-requires : tie.Need-get-requires
 get-requires c κs =
     let a = c .before .before .before .before .args in
     let p = c .before .before .before .before .pre in
-    (p .0, place-blocks (a .y) 6 (a .block) (omega arith) (omega arith) (p .2 .inside))
+    (p .0, place-blocks (a .y) reachableCell (a .block) (omega arith) (omega arith) (p .2 .inside))
 
 same-length : tie.Need-same-length
 same-length c = search needs

@@ -4,6 +4,7 @@ use Prim.Native.Nat.{ℕ}
 use native.Mathlib.Omega.{arith}
 use denote.Ref.{now}
 use borrow.Author.Needs.{needs}
+use Rattle.memory.specs.Names.{startCell, endCell}
 use Rattle.memory.specs.Scratch.{scratch, Room}
 use Rattle.memory.proofs.ScratchLaws.{place-blocks}
 use Rattle.check_points.proofs.SolvedLaws.{solved-connected}
@@ -21,7 +22,7 @@ get-requires c κs =
     let g = c .before .before .before in
     let e = g .before .before .before .before .before .before in (
       subst (λ (n : ℕ). Room (e .args .y) n) (sym (g .gather .kept .0)) (e .pre .0),
-      place-blocks (e .args .y) 4 (e .args .block) (omega arith) (omega arith) (e .pre .2 .inside),
+      place-blocks (e .args .y) startCell (e .args .block) (omega arith) (omega arith) (e .pre .2 .inside),
     )
 
 get-requires-2 : tie.Need-get-requires-2
@@ -29,7 +30,7 @@ get-requires-2 c κs =
     let g = c .before .before .before .before .before in
     let e = g .before .before .before .before .before .before in (
       subst (λ (n : ℕ). Room (e .args .y) n) (sym (g .gather .kept .0)) (e .pre .0),
-      place-blocks (e .args .y) 5 (e .args .block) (omega arith) (omega arith) (e .pre .2 .inside),
+      place-blocks (e .args .y) endCell (e .args .block) (omega arith) (omega arith) (e .pre .2 .inside),
     )
 
 block-reads-requires : tie.Need-block-reads-requires

@@ -43,7 +43,8 @@ look-requires c κs =
         inside = rw e (p .3 .blocks _ (search needs));
         atBlock = e;
         atEdge = c .before .before .before .before .get2 .ensures;
-        counted = rw (← c .before .before .get3 .ensures) (search needs);
+        counted = c .before .before .get3 .ensures;
+        left = search needs;
       },
     )
 
@@ -63,11 +64,11 @@ put-requires c κs =
       place-blocks _ _ _ (search needs) (search needs) (omega (arith, good-room _ _ (scratch-sized _ (p .0)) (p .3), p .1)),
     )
 
-sub-t10 : tie.Need-sub-t10
-sub-t10 c = search needs
+sub-t11 : tie.Need-sub-t11
+sub-t11 c = search needs
 
-add-t22 : tie.Need-add-t22
-add-t22 c =
+add-t23 : tie.Need-add-t23
+add-t23 c =
     let p = c .before .before .before .before .before .before .before .before .before .before .before .before .pre in
     omega (arith, good-room _ _ (scratch-sized _ (p .0)) (p .3), p .0 .blocks)
 
@@ -96,7 +97,7 @@ advance-spec =
     same-length
     returns
     put-requires
-    sub-t10
-    add-t22
+    sub-t11
+    add-t23
     same-length-2
     returns-2)

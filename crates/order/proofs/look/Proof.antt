@@ -18,7 +18,7 @@ put-requires : tie.Need-put-requires
 put-requires c κs =
     let p = c .before .before .pre in (
       search needs,
-      place-blocks _ _ _ (search needs) (search needs) (omega (arith, look-room _ _ (scratch-sized _ (p .0)) _ _ _ (p .1), p .1 .frames)),
+      place-blocks _ _ _ (search needs) (search needs) (omega (arith, look-room _ _ (scratch-sized _ (p .0)) _ _ _ _ (p .1), p .1 .frames)),
     )
 
 successor-requires : tie.Need-successor-requires
@@ -26,7 +26,7 @@ successor-requires c κs =
     let p = c .before .before .before .before .before .before .pre in
     let e = c .before .before .before .put .ensures in
     let z = scratch-sized _ (p .0) in
-    (search needs, p .1 .inside, moved-counted _ _ z _ _ _ (p .1) _ _ e, lead-below _ _ z _ _ _ (p .1) _ _ e)
+    (search needs, p .1 .inside, moved-counted _ _ z _ _ _ _ (p .1) _ _ e, p .1 .left, lead-below _ _ z _ _ _ _ (p .1) _ _ e)
 
 enter-requires : tie.Need-enter-requires
 enter-requires c κs =
@@ -34,8 +34,8 @@ enter-requires c κs =
     let e = c .before .before .before .before .before .put .ensures in
     let z = scratch-sized _ (p .0) in (
       search needs,
-      rw (c .before .successor .ensures) (lead-below _ _ z _ _ _ (p .1) _ _ e),
-      rw (moved-marks _ _ z _ _ _ (p .1) _ _ e) (p .1 .room),
+      rw (c .before .successor .ensures) (lead-below _ _ z _ _ _ _ (p .1) _ _ e),
+      rw (moved-marks _ _ z _ _ _ _ (p .1) _ _ e) (p .1 .room),
     )
 
 same-length : tie.Need-same-length
@@ -45,7 +45,7 @@ returns : tie.Need-returns
 returns c =
     let p = c .before .before .before .before .before .before .before .before .before .before .before .pre in
     let e = c .before .before .before .before .before .before .before .before .put .ensures in
-    looked _ _ (scratch-sized _ (p .0)) _ _ _ (p .1) _ _ _ _ e (c .before .before .before .before .successor .ensures) (c .before .before .enter .ensures)
+    looked _ _ (scratch-sized _ (p .0)) _ _ _ _ (p .1) _ _ _ _ e (c .before .before .before .before .successor .ensures) (c .before .before .enter .ensures)
 
 pub look-spec : {M : Type 1} → statement M
 look-spec =

@@ -38,7 +38,7 @@ search-requires c κs =
     let a = c .before .before .before .before .before .before .before .before .before .before .args in
     let p = c .before .before .before .before .before .before .before .before .before .before .pre in
     let t = c .before .before .before .start .ensures in
-    (search needs, search needs, held-kept _ _ (t .1) (a .y) (p .2), t .0)
+    (search needs, search needs, held-kept (t .1) (p .2), t .0)
 
 same-length : tie.Need-same-length
 same-length c = search needs

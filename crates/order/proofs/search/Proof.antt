@@ -73,7 +73,7 @@ advance-requires c κs =
     let a = c .before .before .before .before .before .before .before .before .before .before .before .args in
     let p = c .before .before .before .before .before .before .before .before .before .before .before .pre in
     let l = c .before .before .before .before .before .before .before .loop in
-    (search needs, search needs, held-kept _ _ (l .inv .2 .others) (a .y) (p .2), l .inv .2 .good)
+    (search needs, search needs, held-kept (l .inv .2 .only) (p .2), l .inv .2 .good)
 
 add-turn : tie.Need-add-turn Inv-loop μ-loop
 add-turn c = search needs

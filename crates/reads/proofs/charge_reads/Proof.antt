@@ -2,6 +2,7 @@
 use mathlib.Core.Path.{refl, ap}
 use Prim.Native.Nat.{_-_, _≤_, _<_}
 use native.Mathlib.Omega.{arith}
+use Rattle.memory.specs.Names.{offsetCell, costCell}
 use Rattle.memory.proofs.ScratchLaws.{place-instructions}
 use Rattle.script.specs.Script.{flowCode}
 use Rattle.sheet.specs.Decode.{partsOf}
@@ -25,7 +26,7 @@ loop-holds c = (omega arith, c .before .before .pre .2, charging-none)
 get-requires : tie.Need-get-requires Inv-loop μ-loop
 get-requires c κs =
     let e = c .before .before .before .before in
-    (e .pre .0, place-instructions (e .args .y) 3 (c .before .loop .pc) (omega arith) (omega (arith, c .loop-test .taken, e .pre .3)))
+    (e .pre .0, place-instructions (e .args .y) costCell (c .before .loop .pc) (omega arith) (omega (arith, c .loop-test .taken, e .pre .3)))
 
 charge-requires : tie.Need-charge-requires Inv-loop μ-loop
 charge-requires c κs = search needs
@@ -53,7 +54,7 @@ get-requires-2 : tie.Need-get-requires-2 Inv-loop μ-loop
 get-requires-2 c κs =
     let t = c .before .before .before .before .before in
     let e = t .before .before .before .before in
-    (e .pre .0, place-instructions (e .args .y) 0 (t .before .loop .pc) (omega arith) (omega (arith, t .loop-test .taken, e .pre .3)))
+    (e .pre .0, place-instructions (e .args .y) offsetCell (t .before .loop .pc) (omega arith) (omega (arith, t .loop-test .taken, e .pre .3)))
 
 instruction-at-requires : tie.Need-instruction-at-requires Inv-loop μ-loop
 instruction-at-requires c κs =

@@ -10,6 +10,7 @@ use lib.ListN.{length, getD}
 use Rattle.bitset.specs.Sets.{member}
 use Rattle.dataflow.proofs.Bools.{not-no}
 use Rattle.memory.specs.Cells.{cell}
+use Rattle.memory.specs.Names.{offsetCell, costCell}
 use Rattle.memory.specs.Scratch.{scratch, Room, Row}
 use Rattle.memory.proofs.ScratchLaws.{scratch-length, row-length, place-instructions}
 use Rattle.operands.specs.Instructions.{valuesOf}
@@ -54,7 +55,7 @@ get-requires c κs =
     let block = c .before .before .block in
     let test = c .before .block-test in (
       subst (λ (n : ℕ). Room (args .y) n) (sym (block .inv .2)) (pre .0),
-      place-instructions (args .y) 3 (block .pc) (omega arith) (omega (
+      place-instructions (args .y) costCell (block .pc) (omega arith) (omega (
         arith,
         test .taken,
         pre .3,
@@ -95,7 +96,7 @@ get-requires-2 c κs =
     let block = c .before .before .before .before .before .before .before .before .block in
     let test = c .before .before .before .before .before .before .before .block-test in (
       subst (λ (n : ℕ). Room (args .y) n) (sym (block .inv .2)) (pre .0),
-      place-instructions (args .y) 0 (block .pc) (omega arith) (omega (
+      place-instructions (args .y) offsetCell (block .pc) (omega arith) (omega (
         arith,
         test .taken,
         pre .3,

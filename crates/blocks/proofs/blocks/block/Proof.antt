@@ -4,6 +4,7 @@ use Prim.Native.Nat.{ℕ, _-_}
 use native.Mathlib.Omega.{arith}
 use denote.Ref.{now}
 use lib.ListN.{length}
+use Rattle.memory.specs.Names.{offsetCell, startCell, endCell}
 use Rattle.memory.specs.Scratch.{Room}
 use Rattle.blocks.proofs.BlockLaws.{emptied, spans, end-inside}
 use Rattle.blocks.proofs.BlockLaws.{last-inside, last-stands, last-read, last-targets, last-behind, last-next, still-ready, built-one}
@@ -30,7 +31,7 @@ get-requires c κs =
     let empty = c .before .before .before .empty in
     let span = c .before .before .before .before .before .before .before .span in (
       subst (λ (n : ℕ). Room (args .y) n) (sym (empty .kept .0 ∙ span .kept .0)) (pre .0),
-      place-blocks (args .y) 4 (args .index) (omega arith)
+      place-blocks (args .y) startCell (args .index) (omega arith)
           (omega arith) (pre .2),
     )
 
@@ -41,7 +42,7 @@ get-requires-2 c κs =
     let empty = c .before .before .before .before .before .empty in
     let span = c .before .before .before .before .before .before .before .before .before .span in (
       subst (λ (n : ℕ). Room (args .y) n) (sym (empty .kept .0 ∙ span .kept .0)) (pre .0),
-      place-blocks (args .y) 5 (args .index) (omega arith)
+      place-blocks (args .y) endCell (args .index) (omega arith)
           (omega arith) (pre .2),
     )
 
@@ -68,7 +69,7 @@ get-requires-3 c κs =
     let get2 = c .before .get2 in
     let em = emptied (pre .1) (pre .2) (scratch-sized (now (args .s)) (pre .0)) (span .ensures) (empty .ensures) in (
       subst (λ (n : ℕ). Room (args .y) n) (sym (empty .kept .0 ∙ span .kept .0)) (pre .0),
-      place-instructions (args .y) 0 (get2 .result - 1)
+      place-instructions (args .y) offsetCell (get2 .result - 1)
           (omega arith) (last-inside (pre .1) (pre .2) em (get .ensures) (get2 .ensures)),
     )
 

@@ -4,6 +4,7 @@ use native.Mathlib.Omega.{arith}
 use borrow.Author.Needs.{needs}
 use borrow.Author.Tests.{lt-ltb, le-ltb}
 use Rattle.blocks.specs.Words.{endOf}
+use Rattle.memory.specs.Names.{leaderCell}
 use Rattle.memory.proofs.ScratchLaws.{place-instructions}
 use Rattle.blocks.proofs.span.end_of.Statement.{statement}
 use Rattle.blocks.proofs.span.end_of.Tie as tie
@@ -17,7 +18,7 @@ add-get c = search needs
 get-requires : tie.Need-get-requires
 get-requires c κs =
     let args = c .before .before .before .args in
-    (search needs, place-instructions (args .y) 2 _ (omega arith) (omega arith))
+    (search needs, place-instructions (args .y) leaderCell _ (omega arith) (omega arith))
 
 returns : tie.Need-returns
 unfolding endOf

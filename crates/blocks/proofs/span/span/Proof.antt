@@ -2,6 +2,7 @@
 use native.Mathlib.Omega.{arith}
 use borrow.Author.Needs.{needs}
 use Rattle.blocks.proofs.WordLaws.{span-from}
+use Rattle.memory.specs.Names.{leaderCell, startCell, endCell}
 use Rattle.memory.proofs.ScratchLaws.{place-instructions, place-blocks}
 use Rattle.blocks.proofs.span.span.Statement.{statement}
 use Rattle.blocks.proofs.span.span.Tie as tie
@@ -9,7 +10,7 @@ use Rattle.blocks.proofs.span.span.Tie as tie
 get-requires : tie.Need-get-requires
 get-requires c κs =
     let args = c .before .before .args in
-    (search needs, place-instructions (args .y) 2 _ (omega arith) (omega arith))
+    (search needs, place-instructions (args .y) leaderCell _ (omega arith) (omega arith))
 
 end-of-requires : tie.Need-end-of-requires
 end-of-requires c κs = search needs
@@ -17,12 +18,12 @@ end-of-requires c κs = search needs
 put-requires : tie.Need-put-requires
 put-requires c κs =
     let args = c .before .before .before .before .before .before .args in
-    (search needs, place-blocks (args .y) 4 _ (omega arith) (omega arith) (omega arith))
+    (search needs, place-blocks (args .y) startCell _ (omega arith) (omega arith) (omega arith))
 
 put-requires-2 : tie.Need-put-requires-2
 put-requires-2 c κs =
     let args = c .before .before .before .before .before .before .before .before .before .before .args in
-    (search needs, place-blocks (args .y) 5 _ (omega arith) (omega arith) (omega arith))
+    (search needs, place-blocks (args .y) endCell _ (omega arith) (omega arith) (omega arith))
 
 same-length : tie.Need-same-length
 same-length c = search needs

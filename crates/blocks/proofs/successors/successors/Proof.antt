@@ -28,8 +28,7 @@ same-length c = search needs
 
 returns : tie.Need-returns
 returns c =
-    let early = c .before .before .before .before .before .before .before .before .before .before in
-    let args = early .before .before .before .before .args in
+    let args = c .before .before .before .before .before .before .before .before .before .before .before .before .before .before .args in
     let ends-block = c .before .before .before .before .before .before .before .before .before .before .ends-block in
     let test = c .before .before .before .before .before .before .before .before .before .if1 in
     let target-count = c .before .before .before .before .before .before .before .before .target-count in
@@ -42,15 +41,12 @@ returns c =
 count-edges-requires-2 : tie.Need-count-edges-requires-2
 count-edges-requires-2 c κs = search needs
 
-mul-link : tie.Need-mul-link
-mul-link c = search needs
-
 link-requires : tie.Need-link-requires
 link-requires c κs =
     let pre = c .before .before .before .before .before .before .before .before .before .before .pre in
     let ends-block = c .before .before .before .before .before .before .ends-block in
     let test = c .before .before .before .before .before .if1 in
-    (search needs, omega (arith, pre .2), pre .4 (sym (ends-block .ensures) ∙ test .left))
+    (search needs, pre .2, omega arith, pre .4 (sym (ends-block .ensures) ∙ test .left))
 
 same-length-2 : tie.Need-same-length-2
 same-length-2 c = search needs
@@ -77,7 +73,6 @@ successors-spec =
     same-length
     returns
     count-edges-requires-2
-    mul-link
     link-requires
     same-length-2
     returns-2)

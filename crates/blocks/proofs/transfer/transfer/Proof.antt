@@ -4,6 +4,7 @@ use Prim.Native.Nat.{ℕ, _-_, _≤_}
 use native.Mathlib.Omega.{arith}
 use lib.ListN.{length}
 use borrow.Author.Needs.{needs}
+use Rattle.memory.specs.Names.{offsetCell, costCell}
 use Rattle.memory.specs.Scratch.{scratch, Room}
 use Rattle.script.specs.Script.{flowCode}
 use Rattle.sheet.specs.Decode.{partsOf}
@@ -33,7 +34,7 @@ get-requires c κs =
     let loop = c .before .before .loop in
     let test = c .before .loop-test in (
       subst (λ (n : ℕ). Room (args .y) n) (sym (loop .inv .2)) (pre .0),
-      place-instructions (args .y) 0 (loop .pc) (omega arith)
+      place-instructions (args .y) offsetCell (loop .pc) (omega arith)
           (omega (arith, test .taken, pre .4)),
     )
 
@@ -76,7 +77,7 @@ put-requires c κs =
     let loop = c .before .before .before .before .before .before .loop in
     let test = c .before .before .before .before .before .loop-test in (
       subst (λ (n : ℕ). Room (args .y) n) (sym (loop .inv .2)) (pre .0),
-      place-instructions (args .y) 3 (loop .pc) (omega arith)
+      place-instructions (args .y) costCell (loop .pc) (omega arith)
           (omega (arith, test .taken, pre .4)),
     )
 

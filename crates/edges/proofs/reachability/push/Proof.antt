@@ -2,8 +2,8 @@
 use native.Mathlib.Omega.{arith}
 use denote.Ref.{now}
 use borrow.Author.Needs.{needs}
-use Rattle.memory.specs.Scratch.{scratch}
-use Rattle.edges.proofs.StackLaws.{search-none, search-stored, enter-marked, enter-room, enter-new}
+use Rattle.memory.proofs.FrameLaws.{only-none}
+use Rattle.edges.proofs.StackLaws.{search-stored, enter-marked, enter-room, enter-new}
 use Rattle.memory.proofs.ScratchLaws.{scratch-sized, place-blocks}
 use Rattle.edges.proofs.reachability.push.Statement.{statement}
 use Rattle.edges.proofs.reachability.push.Tie as tie
@@ -20,7 +20,7 @@ returns c =
     let pre = c .before .before .before .before .pre in
     let get = c .before .get in
     let if1 = c .if1 in
-    record { sweeps = λ next r s. enter-marked s (pre .1) (get .ensures) next (if1 .taken); only = search-none }
+    record { sweeps = λ next r s. enter-marked s (pre .1) (get .ensures) next (if1 .taken); only = only-none _ }
 
 put-requires : tie.Need-put-requires
 put-requires c κs =
@@ -52,12 +52,10 @@ returns-2 c =
     let if1 = c .before .before .before .before .before .before .before .before .if1 in
     let put = c .before .before .before .before .before .before .put in
     let put2 = c .before .before .put2 in
-    let y = a .y in
     record {
       sweeps = λ next r s. enter-new s (pre .1) (get .ensures) (scratch-sized (now (a .s)) (pre .0)) next (if1 .left) (put .ensures)
           (put2 .ensures);
-      only = search-stored (scratch y (now (a .s))) (scratch y (put .last .0)) (scratch y (put2 .last .0)) (a .block) 1 (a .top)
-          (a .block) (put .ensures) (put2 .ensures);
+      only = search-stored (a .block) 1 (a .top) (a .block) (put .ensures) (put2 .ensures);
     }
 
 pub push-spec : {M : Type 1} → statement M

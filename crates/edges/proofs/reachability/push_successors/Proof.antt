@@ -1,7 +1,7 @@
 -- `edges::reachability::push_successors` meets its contract. Assumes nothing.
 use mathlib.Core.List.{List}
 use mathlib.Core.Path.{_≡_, refl, sym, _∙_, ap}
-use Prim.Native.Nat.{ℕ, _-_, _≤_, _<_}
+use Prim.Native.Nat.{ℕ, _-_, _≤_}
 use native.Mathlib.Omega.{arith}
 use lib.ListN.{length, replicate}
 use borrow.Author.Needs.{needs}
@@ -9,13 +9,15 @@ use Rattle.budget.specs.Budget.{charged}
 use Rattle.budget.specs.declared.Charged.the-variants.{Ok}
 use Rattle.dataflow.specs.Search.{Sweep}
 use Rattle.edges.specs.Edges.{Holds}
-use Rattle.edges.specs.Stack.{Sweeps, OnlySearch}
-use Rattle.memory.specs.Cells.{word}
+use Rattle.edges.specs.Reachability.{sweepCells}
+use Rattle.edges.specs.Stack.{Sweeps}
+use Rattle.memory.specs.Frame.{Only, NoRow}
 use Rattle.memory.specs.Names.{successorCountCell}
 use Rattle.memory.specs.Scratch.{scratch}
 use Rattle.budget.proofs.BudgetLaws.{charged-none, ones-more}
-use Rattle.edges.proofs.StackLaws.{search-none, search-more, search-holds}
-use Rattle.edges.proofs.EdgeLaws.{successor-there}
+use Rattle.memory.proofs.CellLaws.{same-word}
+use Rattle.memory.proofs.FrameLaws.{only-none, only-then}
+use Rattle.edges.proofs.EdgeLaws.{holds-only, successor-there}
 use Rattle.edges.proofs.SweepLaws.{Adding, adding-none, adding-more, successor-at, advanced-over, advanced-all}
 use Rattle.memory.proofs.ScratchLaws.{place-blocks}
 use Rattle.edges.specs.declared.reachability.Pushed.the-variants.{Over}
@@ -24,7 +26,7 @@ use Rattle.edges.proofs.reachability.push_successors.Tie as tie
 
 abbrev Inv-loop : tie.InvT-loop
 Inv-loop s₀ y block top limits n left₀ high₀ k₀ s left high k =
-    (k ≤ n) × (length s ≡ length s₀) × OnlySearch (scratch y s₀) (scratch y s) × (charged limits left₀ (replicate k 1) ≡ Ok left)
+    (k ≤ n) × (length s ≡ length s₀) × Only sweepCells NoRow (scratch y s₀) (scratch y s) × (charged limits left₀ (replicate k 1) ≡ Ok left)
     × ((next : ℕ → List ℕ) → Holds next y (scratch y s₀) → (r : Sweep) → Sweeps y high₀ r (scratch y s₀) → Adding next y block k high r
     (scratch y s))
 
@@ -37,7 +39,7 @@ get-requires c κs =
 
 loop-holds : tie.Need-loop-holds Inv-loop μ-loop
 loop-holds c =
-    (omega arith, refl, search-none, charged-none _ _, λ next h r s. adding-none s)
+    (omega arith, refl, only-none _, charged-none _ _, λ next h r s. adding-none s)
 
 charge-requires : tie.Need-charge-requires Inv-loop μ-loop
 charge-requires c κs = search needs
@@ -73,10 +75,9 @@ successor-requires c κs =
     let get = c .before .before .before .before .before .before .before .get in
     let l = c .before .before .before .before .before .before .loop in
     let loop-test = c .before .before .before .before .before .loop-test in
-    let h = search-holds (l .inv .2) (pre .2 .1) in
-    let there : l .k < word (scratch (a .y) (l .s)) successorCountCell (a .block) =
-    omega (arith, loop-test .taken, get .ensures, h .counted (a .block) (pre .1), pre .2 .1 .counted (a .block) (pre .1)) in
-    (search needs, pre .1, there, successor-there h (a .block) (l .k) (pre .1) there)
+    let h = holds-only (l .inv .2) refl refl (pre .2 .1) in
+    let n = get .ensures ∙ sym (same-word (a .block) (l .inv .2 .named successorCountCell refl)) in
+    (search needs, pre .1, n, loop-test .taken, successor-there h (a .block) (l .k) (pre .1) (omega (arith, n, loop-test .taken)))
 
 push-requires : tie.Need-push-requires Inv-loop μ-loop
 push-requires c κs =
@@ -108,7 +109,7 @@ loop-again c =
     let push = c .before .before .push in (
       omega (arith, loop-test .taken),
       push .kept .0 ∙ l .inv .1,
-      search-more (l .inv .2) (push .ensures .only),
+      only-then (l .inv .2) (push .ensures .only),
       ones-more _ _ (l .k) (l .inv .3) ∙ sym (charge .ensures) ∙ met .given .1,
       λ next h r s.
           let t = successor-at (pre .1) h (l .inv .2) (get .ensures) (loop-test .taken) (successor .ensures) in

@@ -1,9 +1,13 @@
 -- `edges::reachability::reachability` meets its contract. Assumes nothing.
+use mathlib.Core.Path.{refl}
 use native.Mathlib.Omega.{arith}
 use lib.ListN.{length}
 use borrow.Author.Needs.{needs}
-use Rattle.memory.specs.Scratch.{scratch, Room}
-use Rattle.edges.proofs.StackLaws.{search-more, search-holds, search-cleared, search-stored, begun}
+use Rattle.memory.specs.Scratch.{Room}
+use Rattle.edges.specs.Reachability.{sweepCells}
+use Rattle.memory.proofs.FrameLaws.{only-then}
+use Rattle.edges.proofs.EdgeLaws.{holds-only, cleared-only}
+use Rattle.edges.proofs.StackLaws.{search-stored, begun}
 use Rattle.edges.proofs.SweepLaws.{reached-from}
 use Rattle.memory.proofs.ScratchLaws.{scratch-sized, place-blocks}
 use Rattle.edges.proofs.reachability.reachability.Statement.{statement}
@@ -36,9 +40,9 @@ sweep-requires c κs =
     let m = clear-marks .last .0 in
     let e = clear-marks .ensures in
     let r : Room y (length m) = rw (clear-marks .kept .0) (pre .0) in
-    let f = search-stored (scratch y m) (scratch y (put .last .0)) (scratch y (put2 .last .0)) 0 1 0 0 (put .ensures) (put2 .ensures) in (
+    let f = search-stored 0 1 0 0 (put .ensures) (put2 .ensures) in (
       search needs,
-      (h .0, search-holds (search-more (search-cleared e) f) (h .1)),
+      (h .0, holds-only (only-then (cleared-only sweepCells refl e) f) refl refl (h .1)),
       begun (scratch-sized m r) (pre .1) (e .zeros)
           (put .ensures) (put2 .ensures),
     )
@@ -56,8 +60,8 @@ returns c =
     let sweep = c .before .before .sweep in
     let y = args .y in
     let m = clear-marks .last .0 in
-    let f = search-stored (scratch y m) (scratch y (put .last .0)) (scratch y (put2 .last .0)) 0 1 0 0 (put .ensures) (put2 .ensures) in
-    reached-from (search-more (search-cleared (clear-marks .ensures)) f) (sweep .ensures)
+    let f = search-stored 0 1 0 0 (put .ensures) (put2 .ensures) in
+    reached-from (only-then (cleared-only sweepCells refl (clear-marks .ensures)) f) (sweep .ensures)
 
 pub reachability-spec : {M : Type 1} → statement M
 reachability-spec =

@@ -7,10 +7,13 @@ use lib.ListN.{length}
 use borrow.Author.Needs.{needs}
 use Rattle.budget.specs.declared.Charged.the-variants.{Over}
 use Rattle.edges.specs.Edges.{Holds}
-use Rattle.edges.specs.Stack.{OnlySearch, leftOf}
+use Rattle.edges.specs.Reachability.{sweepCells}
+use Rattle.edges.specs.Stack.{leftOf}
+use Rattle.memory.specs.Frame.{Only, NoRow}
 use Rattle.edges.specs.declared.reachability.Pushed.{Pushed}
 use Rattle.memory.specs.Scratch.{scratch}
-use Rattle.edges.proofs.StackLaws.{search-none, search-more, search-holds}
+use Rattle.memory.proofs.FrameLaws.{only-none, only-then}
+use Rattle.edges.proofs.EdgeLaws.{holds-only}
 use Rattle.edges.proofs.SweepLaws.{Swept, swept-begun, swept-top, swept-high, swept-popped, swept-more, swept-over, swept-empty, swept-out}
 use Rattle.edges.proofs.SweepLaws.{reached-end, reached-over}
 use Rattle.memory.proofs.ScratchLaws.{place-blocks}
@@ -19,7 +22,7 @@ use Rattle.edges.proofs.reachability.sweep.Tie as tie
 
 abbrev Inv-loop : tie.InvT-loop
 Inv-loop s₀ y limits n left₀ top₀ taken₀ s left top taken =
-    (taken ≤ n) × (length s ≡ length s₀) × OnlySearch (scratch y s₀) (scratch y s)
+    (taken ≤ n) × (length s ≡ length s₀) × Only sweepCells NoRow (scratch y s₀) (scratch y s)
     × ((next : ℕ → List ℕ) → Holds next y (scratch y s₀) → Swept next y limits left₀ (y .blocks - taken) top left (scratch y s))
 
 abbrev μ-loop : tie.MeasureT-loop
@@ -27,7 +30,7 @@ abbrev μ-loop : tie.MeasureT-loop
 
 loop-holds : tie.Need-loop-holds Inv-loop μ-loop
 loop-holds c =
-    (omega arith, refl, search-none, λ next h. swept-begun (c .before .pre .2))
+    (omega arith, refl, only-none _, λ next h. swept-begun (c .before .pre .2))
 
 same-length : tie.Need-same-length Inv-loop μ-loop
 same-length c =
@@ -65,7 +68,7 @@ push-successors-requires c κs =
     let h = pre .1 in
     let w = l .inv .3 (h .0) (h .1) in
     let some : 0 < l .top = omega (arith, if1 .left) in
-    (search needs, rw (get .ensures) (swept-top w some), (h .0, search-holds (l .inv .2) (h .1)), (_, swept-popped w some (get .ensures)))
+    (search needs, rw (get .ensures) (swept-top w some), (h .0, holds-only (l .inv .2) refl refl (h .1)), (_, swept-popped w some (get .ensures)))
 
 enum-known-pushed : tie.Need-enum-known-pushed Inv-loop μ-loop
 enum-known-pushed c = search needs
@@ -95,9 +98,9 @@ returns-2 c =
     let p = push-successors .ensures in
     let e = enum-told .given .1 in
     let some : 0 < l .top = omega (arith, if1 .left) in
-    reached-over (search-more (l .inv .2) (p .only))
+    reached-over (only-then (l .inv .2) (p .only))
     (λ next h. swept-over (l .inv .3 next h) some (get .ensures) {n′ = args .y .blocks - (l .taken + 1)}
-    (omega (arith, loop-test .taken)) (search-holds (l .inv .2) h) p e)
+    (omega (arith, loop-test .taken)) (holds-only (l .inv .2) refl refl h) p e)
     (crossed .ensures ∙ ap (λ (x : Pushed). Over (leftOf x)) e)
 
 add-taken : tie.Need-add-taken Inv-loop μ-loop
@@ -118,8 +121,8 @@ loop-again c =
     let some : 0 < l .top = omega (arith, if1 .left) in (
       omega (arith, loop-test .taken),
       push-successors .kept .0 ∙ l .inv .1,
-      search-more (l .inv .2) (p .only),
-      λ next h. swept-more (l .inv .3 next h) some (get .ensures) (omega (arith, loop-test .taken)) (search-holds (l .inv .2) h) p
+      only-then (l .inv .2) (p .only),
+      λ next h. swept-more (l .inv .3 next h) some (get .ensures) (omega (arith, loop-test .taken)) (holds-only (l .inv .2) refl refl h) p
           (pushed .given .1),
     )
 

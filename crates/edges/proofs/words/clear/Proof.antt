@@ -15,7 +15,7 @@ same-length c = search needs
 returns : tie.Need-returns
 returns c =
     let b = c .before .before .before .before .before in
-    cleared-cell (b .args .y) (b .args .k) _ _ (scratch-sized (now (b .args .s)) (b .pre .0)) (b .pre .1) (b .pre .2) (c .before .before .clear .ensures)
+    cleared-cell (b .args .y) (b .args .k) _ _ (scratch-sized (now (b .args .s)) (b .pre .0)) (b .pre .1) (c .before .before .clear .ensures)
 
 pub clear-spec : {M : Type 1} → statement M
 clear-spec = tie.close (tie.spec clear-requires same-length returns)

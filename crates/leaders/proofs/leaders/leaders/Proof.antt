@@ -5,6 +5,7 @@ use native.Mathlib.Omega.{arith}
 use denote.Ref.{now}
 use borrow.Author.Needs.{needs}
 use Rattle.leaders.specs.Leaders.{marking}
+use Rattle.memory.specs.Names.{blockOfCell}
 use Rattle.memory.specs.Scratch.{Room}
 use Rattle.leaders.proofs.LeaderLaws.{begun, leads-from}
 use Rattle.memory.proofs.ScratchLaws.{scratch-sized, place-instructions}
@@ -16,7 +17,7 @@ clear-requires c κs = search needs
 
 put-requires : tie.Need-put-requires
 put-requires c κs =
-    (subst (λ (n : ℕ). Room (marking (c .before .before .before .before .before .before .before .args .script)) n) (sym (c .before .before .before .clear .kept .0)) (c .before .before .before .before .before .before .before .pre .1), place-instructions (marking (c .before .before .before .before .before .before .before .args .script)) 1 0 (omega arith) (c .before .before .before .before .before .before .before .pre .0 .some-code))
+    (subst (λ (n : ℕ). Room (marking (c .before .before .before .before .before .before .before .args .script)) n) (sym (c .before .before .before .clear .kept .0)) (c .before .before .before .before .before .before .before .pre .1), place-instructions (marking (c .before .before .before .before .before .before .before .args .script)) blockOfCell 0 (omega arith) (c .before .before .before .before .before .before .before .pre .0 .some-code))
 
 mark-all-requires : tie.Need-mark-all-requires
 mark-all-requires c κs = (

@@ -10,6 +10,7 @@ use Rattle.budget.specs.declared.Charged.the-variants.{Ok}
 use Rattle.instructions.specs.Placed.{Stands}
 use Rattle.instructions.specs.Sound.{codeOffset}
 use Rattle.leaders.specs.Leaders.{marking}
+use Rattle.memory.specs.Names.{offsetCell}
 use Rattle.memory.specs.Scratch.{scratch, Room}
 use Rattle.sheet.specs.Decode.{offsetOf}
 use Rattle.budget.proofs.BudgetLaws.{charged-none, ones-more}
@@ -54,7 +55,7 @@ instruction-at-requires c κs =
 put-requires : tie.Need-put-requires Inv-loop μ-loop
 put-requires c κs =
     let l = c .before .before .before .before .before .before .before .before .loop in
-    (subst (λ (n : ℕ). Room (marking (c .before .before .before .before .before .before .before .before .before .before .before .args .script)) n) (sym (l .inv .2)) (c .before .before .before .before .before .before .before .before .before .before .before .pre .1), place-instructions (marking (c .before .before .before .before .before .before .before .before .before .before .before .args .script)) 0 (l .pc) (omega arith) (c .before .before .before .before .before .before .if1 .taken))
+    (subst (λ (n : ℕ). Room (marking (c .before .before .before .before .before .before .before .before .before .before .before .args .script)) n) (sym (l .inv .2)) (c .before .before .before .before .before .before .before .before .before .before .before .pre .1), place-instructions (marking (c .before .before .before .before .before .before .before .before .before .before .before .args .script)) offsetCell (l .pc) (omega arith) (c .before .before .before .before .before .before .if1 .taken))
 
 mark-requires : tie.Need-mark-requires Inv-loop μ-loop
 mark-requires c κs =

@@ -4,6 +4,7 @@ use native.Mathlib.Omega.{arith}
 use borrow.Author.Needs.{needs}
 use borrow.Author.Tests.{lt-ltb, le-ltb}
 use Rattle.leaders.specs.Leaders.{markNext}
+use Rattle.memory.specs.Names.{blockOfCell}
 use Rattle.memory.proofs.ScratchLaws.{place-instructions}
 use Rattle.leaders.proofs.leaders.mark_next.Statement.{statement}
 use Rattle.leaders.proofs.leaders.mark_next.Tie as tie
@@ -16,7 +17,7 @@ add-put c = search needs
 
 put-requires : tie.Need-put-requires
 put-requires c κs =
-    (search needs, place-instructions (c .before .before .before .before .args .y) 1 _ (omega arith) (omega arith))
+    (search needs, place-instructions (c .before .before .before .before .args .y) blockOfCell _ (omega arith) (omega arith))
 
 same-length : tie.Need-same-length
 same-length c = search needs

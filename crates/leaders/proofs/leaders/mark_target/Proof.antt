@@ -35,7 +35,7 @@ put-requires : tie.Need-put-requires
 put-requires c κs =
     let ts = targetsOf (c .before .before .before .before .before .before .before .before .args .i .pattern .kind) (valuesOf (now (c .before .before .before .before .before .before .before .before .args .sheet)) (c .before .before .before .before .before .before .before .before .args .i)) in
     let e = c .index .ensures ∙ operand-there ts (c .before .before .before .before .before .before .before .before .args .k) (c .before .before .before .before .before .before .before .before .pre .3) _ (ap targetIn (sym (c .before .before .before .t .given .1)) ∙ c .before .before .before .before .before .target .ensures) in
-    (search needs, place-instructions (c .before .before .before .before .before .before .before .before .args .y) 1 _ (omega arith) (omega (arith, e, below-getD (c .before .before .before .before .before .before .before .before .args .y .instructions) ts (c .before .before .before .before .before .before .before .before .args .k) 0 (c .before .before .before .before .before .before .before .before .pre .2) (c .before .before .before .before .before .before .before .before .pre .3))))
+    (search needs, place-instructions (c .before .before .before .before .before .before .before .before .args .y) blockOfCell _ (omega arith) (omega (arith, e, below-getD (c .before .before .before .before .before .before .before .before .args .y .instructions) ts (c .before .before .before .before .before .before .before .before .args .k) 0 (c .before .before .before .before .before .before .before .before .pre .2) (c .before .before .before .before .before .before .before .before .pre .3))))
 
 same-length : tie.Need-same-length
 same-length c = search needs

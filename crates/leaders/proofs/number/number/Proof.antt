@@ -5,6 +5,7 @@ use native.Mathlib.Omega.{arith}
 use denote.Ref.{now}
 use lib.ListN.{length}
 use borrow.Author.Needs.{needs}
+use Rattle.memory.specs.Names.{blockOfCell, leaderCell}
 use Rattle.memory.specs.Scratch.{scratch, Room}
 use Rattle.leaders.proofs.NumberLaws.{Going, going-none, going-more, going-few, going-some, numbered}
 use Rattle.memory.proofs.ScratchLaws.{scratch-sized, sized-among, sized-inside, place-instructions, width-instructions}
@@ -43,8 +44,8 @@ loop-again c =
       refl,
       c .before .before .number-one .kept .0 ∙ l .inv .2,
       going-more _ _ _ _ (l .inv .3) (sized-among (a .y) z (omega arith))
-          (sized-inside (a .y) z (place-instructions (a .y) 1 (l .i) (omega arith) (omega arith)))
-          (sized-inside (a .y) z (place-instructions (a .y) 2 (l .blocks) (omega arith) (omega (arith, going-few _ _ _ _ (l .inv .3)))))
+          (sized-inside (a .y) z (place-instructions (a .y) blockOfCell (l .i) (omega arith) (omega arith)))
+          (sized-inside (a .y) z (place-instructions (a .y) leaderCell (l .blocks) (omega arith) (omega (arith, going-few _ _ _ _ (l .inv .3)))))
           _ _ (c .before .before .number-one .ensures .0) (c .before .before .number-one .ensures .1),
     )
 
@@ -56,7 +57,7 @@ returns c =
     let a = c .before .before .before .args in
     let l = c .before .loop in
     let z = scratch-sized (now (a .s)) (c .before .before .before .pre .0) in
-    numbered (a .y .instructions) _ _ (l .i) _ (l .inv .3) (omega arith) (z .wide 1 ∙ width-instructions (a .y) 1 (omega arith))
+    numbered (a .y .instructions) _ _ (l .i) _ (l .inv .3) (omega arith) (z .wide blockOfCell ∙ width-instructions (a .y) blockOfCell (omega arith))
 
 pub number-spec : {M : Type 1} → statement M
 number-spec =

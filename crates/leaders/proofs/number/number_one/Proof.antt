@@ -8,7 +8,7 @@ use borrow.Author.Needs.{needs}
 use borrow.Author.Tests.{eq-eqb, ne-eqb}
 use Rattle.leaders.specs.Numbers.{numberOne, countOne}
 use Rattle.memory.specs.Cells.{Mem, word, store}
-use Rattle.memory.specs.Names.{blockOfCell}
+use Rattle.memory.specs.Names.{blockOfCell, leaderCell}
 use Rattle.memory.specs.Scratch.{scratch, Room}
 use Rattle.memory.proofs.ScratchLaws.{place-instructions}
 use Rattle.leaders.proofs.number.number_one.Statement.{statement}
@@ -16,7 +16,7 @@ use Rattle.leaders.proofs.number.number_one.Tie as tie
 
 get-requires : tie.Need-get-requires
 get-requires c κs =
-    (search needs, place-instructions (c .before .before .args .y) 1 (c .before .before .args .i) (omega arith) (omega arith))
+    (search needs, place-instructions (c .before .before .args .y) blockOfCell (c .before .before .args .i) (omega arith) (omega arith))
 
 sub-put : tie.Need-sub-put
 sub-put c =
@@ -24,7 +24,7 @@ sub-put c =
 
 put-requires : tie.Need-put-requires
 put-requires c κs =
-    (search needs, place-instructions (c .before .before .before .before .before .args .y) 1 (c .before .before .before .before .before .args .i) (omega arith) (omega arith))
+    (search needs, place-instructions (c .before .before .before .before .before .args .y) blockOfCell (c .before .before .before .before .before .args .i) (omega arith) (omega arith))
 
 same-length : tie.Need-same-length
 same-length c = search needs
@@ -37,11 +37,11 @@ returns c =
 
 put-requires-2 : tie.Need-put-requires-2
 put-requires-2 c κs =
-    (search needs, place-instructions (c .before .before .before .before .before .args .y) 2 (c .before .before .before .before .before .args .blocks) (omega arith) (omega arith))
+    (search needs, place-instructions (c .before .before .before .before .before .args .y) leaderCell (c .before .before .before .before .before .args .blocks) (omega arith) (omega arith))
 
 put-requires-3 : tie.Need-put-requires-3
 put-requires-3 c κs =
-    (subst (λ (n : ℕ). Room (c .before .before .before .before .before .before .before .before .before .args .y) n) (sym (c .before .before .before .put2 .kept .0)) (c .before .before .before .before .before .before .before .before .before .pre .0), place-instructions (c .before .before .before .before .before .before .before .before .before .args .y) 1 (c .before .before .before .before .before .before .before .before .before .args .i) (omega arith) (omega arith))
+    (subst (λ (n : ℕ). Room (c .before .before .before .before .before .before .before .before .before .args .y) n) (sym (c .before .before .before .put2 .kept .0)) (c .before .before .before .before .before .before .before .before .before .pre .0), place-instructions (c .before .before .before .before .before .before .before .before .before .args .y) blockOfCell (c .before .before .before .before .before .before .before .before .before .args .i) (omega arith) (omega arith))
 
 add-result : tie.Need-add-result
 add-result c = search needs

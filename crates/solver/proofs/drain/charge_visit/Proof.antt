@@ -7,8 +7,8 @@ use denote.Ref.{now}
 use borrow.Author.Needs.{needs}
 use Rattle.budget.specs.Budget.{charged}
 use Rattle.memory.specs.Scratch.{edgeWords, scratch}
-use Rattle.transfer.specs.Neighbors.{countOf}
-use Rattle.transfer.specs.declared.direction.Side.{Side}
+use Rattle.memory.specs.Edges.{countOf}
+use Rattle.memory.specs.declared.edges.Side.{Side}
 use Rattle.solver.proofs.RunLaws.{charge-small}
 use Rattle.solver.proofs.drain.charge_visit.Statement.{statement}
 use Rattle.solver.proofs.drain.charge_visit.Tie as tie
