@@ -1,5 +1,5 @@
 -- An instruction and a slot as the code holds them. Assumes nothing.
-use mathlib.Core.Path.{_≡_, refl, sym, _∙_}
+use mathlib.Core.Path.{_≡_, refl, sym, ap, _∙_}
 use mathlib.Core.Bool.{Bool, true, false, _||_}
 use mathlib.Core.List.{List}
 use Prim.Native.Nat.{ℕ, _+_, _-_, _/_, _≤_, _<_}
@@ -20,7 +20,8 @@ use Rattle.sheet.specs.Decode.{typeIn, slotOf}
 use Rattle.instructions.specs.declared.placed.Placed.{Placed}
 use Rattle.instructions.specs.declared.slot.SlotRecord.{SlotRecord}
 use Rattle.instructions.specs.Placed.{placedAt}
-use Rattle.instructions.specs.Slots.{isHost, SlotStands, slotRecordAt}
+use Rattle.instructions.specs.declared.slot.HostSlot.{HostSlot}
+use Rattle.instructions.specs.Slots.{isHost, SlotStands, slotRecordAt, hostRecord, hostSlotAt}
 
 -- what `instruction_at` makes is the instruction there
 pub placed-made : (s : List ℕ) (at n : ℕ) (p : Pattern) → n ≡ u16At s at → p ≡ record { kind = kindAt s at; word = wordOf (kindAt s at) }
@@ -76,6 +77,11 @@ plain-made s at e =
     let r : at + 5 + 1 ≡ endAt s at = omega arith in
     let h = rw r at (byte-host s (at + 5)) in
     rw (q, ← h)
+
+-- a slot as it is held tells whether it is a host slot
+pub host-made : (s : List ℕ) (at : ℕ) (r : SlotRecord) → r ≡ slotRecordAt s at → _≡_ {A = HostSlot} (record { host = hostRecord r; next = r .next }) (hostSlotAt s at)
+unfolding slotRecordAt hostSlotAt isHost
+host-made s at r e = ap (λ (x : SlotRecord). record { host = hostRecord x; next = x .next }) e
 
 -- a slot with a plain record below the host types is no host slot
 pub no-host : (s : List ℕ) (at : ℕ) → plainSlot s 1 at ≡ true → isHost (slotOf s at) ≡ false

@@ -8,6 +8,7 @@ use Rattle.format.specs.Heads.{short, endAt}
 use Rattle.format.specs.Types.{inlineHost}
 use Rattle.sheet.specs.Decode.{SlotKind, slotOf, offsetOf}
 use Rattle.instructions.specs.declared.slot.SlotRecord.{SlotRecord}
+use Rattle.instructions.specs.declared.slot.HostSlot.{HostSlot}
 
 -- document 01, module 6: a host slot has physical 10, or a type that `inline_host` accepts
 unfoldable pub isHost : SlotKind → Bool
@@ -28,3 +29,7 @@ slotRecordAt s at = record { physical = slotOf s at .physical; «inline_host» =
 
 abbrev pub hostRecord : SlotRecord → Bool
 hostRecord r = eqb (r .physical) 10 || r .«inline_host»
+
+-- whether it is a host slot, and where the next record begins
+unfoldable pub hostSlotAt : List ℕ → ℕ → HostSlot
+hostSlotAt s at = record { host = isHost (slotOf s at); next = endAt s at }

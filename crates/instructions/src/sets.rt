@@ -60,9 +60,9 @@ fn host_word(s: &[u8], first: usize, n: usize, word: u64) -> HostWord
     let mut at = first;
     let mut k = 0;
     while k < n {
-        let record = slot::slot_at(s, at);
-        bits |= bit_if(k, record.is_host());
-        at = record.next;
+        let slot = slot::host_at(s, at);
+        bits |= bit_if(k, slot.host);
+        at = slot.next;
         k += 1;
     }
     HostWord {

@@ -3,7 +3,7 @@ use format::bytes;
 use format::types;
 use format::types::Typed;
 ghost use mathlib.Core.Path.{_≡_};
-ghost use Rattle.instructions.specs.Slots.{SlotStands, slotRecordAt, hostRecord};
+ghost use Rattle.instructions.specs.Slots.{SlotStands, slotRecordAt, hostRecord, hostSlotAt};
 
 // The physical byte of a host handle.
 pub const HOST_HANDLE: u8 = 10;
@@ -12,6 +12,13 @@ pub struct SlotRecord {
     pub physical: u8,
     // whether `inline_host` of flow.rs accepts the type
     pub inline_host: bool,
+    // where the next record begins
+    pub next: usize,
+}
+
+// What the row of host slots needs of a record.
+pub struct HostSlot {
+    pub host: bool,
     // where the next record begins
     pub next: usize,
 }
@@ -37,20 +44,24 @@ fn any_slot_at(s: &[u8], at: usize) -> SlotRecord
     }
 }
 
-// The slot whose record stands at an offset. In a body of two bytes, as most are, the second is the type.
-pub fn slot_at(s: &[u8], at: usize) -> SlotRecord
+// Whether the slot whose record stands at an offset is a host slot. In a body of two bytes, as most are, the second is the type.
+pub fn host_at(s: &[u8], at: usize) -> HostSlot
     requires { ⌜ SlotStands (now s) at ⌝ }
-    ensures { λ r. ⌜ r ≡ slotRecordAt (now (s .entry)) at ⌝ }
+    ensures { λ r. ⌜ r ≡ hostSlotAt (now (s .entry)) at ⌝ }
 {
     if bytes::u16_at(s, at) == 4 {
+        let physical = s[at + 4];
         let b = s[at + 5];
-        return SlotRecord {
-            physical: s[at + 4],
-            inline_host: (b == types::HOST) | (b == types::REFERENCE),
+        return HostSlot {
+            host: (physical == HOST_HANDLE) | ((b == types::HOST) | (b == types::REFERENCE)),
             next: at + 6,
         };
     }
-    any_slot_at(s, at)
+    let record = any_slot_at(s, at);
+    HostSlot {
+        host: record.is_host(),
+        next: record.next,
+    }
 }
 
 impl SlotRecord {

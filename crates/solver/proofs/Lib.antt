@@ -1,4 +1,5 @@
 -- Laws of the run over the words.
+pub mod DependentLaws
 pub mod RingLaws
 pub mod RunLaws
 pub mod SeedLaws

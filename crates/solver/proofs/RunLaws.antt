@@ -1,7 +1,7 @@
 -- The run in steps: those who are told, a visit, and the visits until no block waits. Assumes nothing.
 use mathlib.Core.Path.{_≡_, refl, sym, ap, ap₂, _∙_, subst}
 use mathlib.Core.Bool.{true, false}
-use mathlib.Core.List.{List, [], _∷_, map}
+use mathlib.Core.List.{List, [], _∷_}
 use Prim.Native.Nat.{ℕ, zero, suc, _+_, _*_, _-_, _^_, _≤_, _<_}
 use native.Mathlib.Omega.{arith}
 use native.Mathlib.Nat.{mul-le-mul}
@@ -14,7 +14,7 @@ use Rattle.budget.specs.declared.Charged.the-variants.{Ok, Over}
 use Rattle.budget.specs.Budget.{charged}
 use Rattle.budget.proofs.BudgetLaws.{met-one}
 use Rattle.memory.specs.Cells.{Mem, cell, word, store, storeCell}
-use Rattle.memory.specs.Names.{successorCountCell, queuedCell, ringCell}
+use Rattle.memory.specs.Names.{queuedCell, ringCell}
 use Rattle.memory.specs.Scratch.{edgeWords, scratchWidths}
 use Rattle.memory.specs.declared.layout.Layout.{Layout}
 use Rattle.memory.proofs.CellLaws.{Sized}
@@ -22,13 +22,12 @@ use Rattle.transfer.specs.declared.direction.Direction.{Direction}
 use Rattle.solver.specs.declared.ring.Ring.{Ring}
 use Rattle.solver.specs.declared.ring.Turn.{Turn}
 use Rattle.solver.specs.declared.ring.Turn.the-variants.{Stop, Done}
-use Rattle.memory.specs.Edges.{successorAt, sourceOf, nextEdge, chainFrom, neighbors, Connected}
+use Rattle.memory.specs.Edges.{neighbors, Connected}
 use Rattle.transfer.specs.Directions.{dependentsOf}
 use Rattle.transfer.specs.Transfer.{runningRow, keptRow, computed}
 use Rattle.solver.specs.Run.{At, Out, stop, on, atOf, outOf, paid, onward, offered, told, settled, popped, visitCharge, visited, run}
 use Rattle.solver.specs.Run.{Good, Went, Offers, Tells, wrap}
-use Rattle.memory.proofs.EdgeLaws.{SameEdges, same-none, same-then, at-kept, next-kept}
-use Rattle.memory.proofs.EdgeLaws.{successorsFrom, successors-more, successor-block, chain-more}
+use Rattle.memory.proofs.EdgeLaws.{SameEdges, same-none, same-then}
 use Rattle.transfer.proofs.TransferLaws.{running-at}
 use Rattle.solver.proofs.RingLaws.{Kept, good-row, popped-good, offers-kept}
 
@@ -96,23 +95,6 @@ module _ {y : Layout} {l : Limits} {m₀ : Mem} {g₀ : Ring} {b₀ : FlowBudget
       sym (ap (λ (xs : List ℕ). told y l xs (atOf m t g) b) e) ∙ r .same t,
       (r .good, r .low, r .high),
     )
-
--- ---- who is the next of n, k of whom are told; the edges of m are those of m₀
-module _ {m₀ m : Mem} (s : SameEdges m₀ m) (n k : ℕ) (h : k < n) where
-  -- a successor of block c
-  pub next-successor : (c : ℕ) {d : ℕ} → d ≡ successorAt m c k → successorsFrom m₀ c n k ≡ d ∷ successorsFrom m₀ c n (k + 1)
-  next-successor c e = successors-more m₀ c n k h ∙ ap (λ (x : ℕ). x ∷ successorsFrom m₀ c n (k + 1)) (sym (e ∙ at-kept s c k))
-
-  -- is a block
-  pub successor-is-block : {y : Layout} {c : ℕ} → Connected y m₀ → c < y .blocks → n ≡ word m₀ successorCountCell c → successorAt m c k < y .blocks
-  successor-is-block {c = c} w hc en = rw (at-kept s c k) (successor-block w c hc k (omega arith))
-
-  -- the source of edge e of a chain
-  pub next-source : (e : ℕ) {d f : ℕ} → d ≡ sourceOf e → f ≡ nextEdge m e
-      → map sourceOf (chainFrom m₀ (n - k) e) ≡ d ∷ map sourceOf (chainFrom m₀ (n - (k + 1)) f)
-  next-source e ed ef =
-      ap (map sourceOf) (chain-more m₀ n k e h)
-      ∙ ap₂ (λ (x j : ℕ). x ∷ map sourceOf (chainFrom m₀ (n - (k + 1)) j)) (sym ed) (sym (ef ∙ next-kept s e))
 
 -- ---- the running row against the one that is kept
 module _ (d : Direction) (y : Layout) (l : Limits) (c : ℕ) (m t : Mem) (g : Ring) (b : FlowBudget) where

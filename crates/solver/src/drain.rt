@@ -1,4 +1,5 @@
 // The visits of `propagate`.
+use crate::dependents;
 use crate::ring;
 use crate::ring::Ring;
 use crate::ring::Turn;
@@ -17,7 +18,6 @@ ghost use lib.ListN.{length};
 ghost use Rattle.budget.specs.Budget.{charged};
 ghost use Rattle.memory.specs.Scratch.{scratch, Room};
 ghost use Rattle.memory.specs.Sets.{sets, SetsRoom};
-ghost use Rattle.memory.specs.declared.edges.Side.the-variants.{Successors, Predecessors};
 ghost use Rattle.memory.specs.Edges.{neighbors, Connected};
 ghost use Rattle.transfer.specs.Directions.{dependentsOf};
 ghost use Rattle.solver.specs.Run.{atOf, outOf, Tells, settled, visitCharge, visited, run, Good, Went, Idle};
@@ -35,27 +35,10 @@ fn tell(
     requires { ⌜ Room y (length (now s)) × (block < y .blocks) × Good y (scratch y (now s)) from × (budget .work ≤ limits .work) × (limits .work < 2 ^ 64 - 1) ⌝ }
     ensures { λ r. ⌜ Tells y limits (neighbors (dependentsOf d) (scratch y (now (s .entry))) block) (scratch y (now (s .entry))) from budget (scratch y (now (s .exit))) r ⌝ }
 {
-    match d {
-        Direction::Initialization => tell_successors(s, y, from, block, limits, budget),
-        Direction::Liveness => tell_predecessors(s, y, from, block, limits, budget),
-    }
-}
-
-// For each successor of a block.
-fn tell_successors(
-    s: &mut [u64],
-    y: Layout,
-    from: Ring,
-    block: usize,
-    limits: Limits,
-    budget: FlowBudget,
-) -> Turn
-    requires { ⌜ Room y (length (now s)) × (block < y .blocks) × Good y (scratch y (now s)) from × (budget .work ≤ limits .work) × (limits .work < 2 ^ 64 - 1) ⌝ }
-    ensures { λ r. ⌜ Tells y limits (neighbors Successors (scratch y (now (s .entry))) block) (scratch y (now (s .entry))) from budget (scratch y (now (s .exit))) r ⌝ }
-{
-    let n = memory::scratch::get(s, y, layout::SUCCESSOR_COUNT, block) as usize;
+    let n = dependents::count(s, y, d, block) as usize;
     let mut g = from;
     let mut left = budget;
+    let mut edge = dependents::first(s, y, d, block) as usize;
     let mut k = 0;
     while k < n {
         let c = left.charge(1, limits);
@@ -63,38 +46,8 @@ fn tell_successors(
             return Turn::Stop(c.budget());
         };
         left = b;
-        let to = edges::successor(s, y, block, n, k) as usize;
-        g = ring::offer(s, y, g, to);
-        k += 1;
-    }
-    Turn::Done(g, left)
-}
-
-// For each predecessor of a block.
-fn tell_predecessors(
-    s: &mut [u64],
-    y: Layout,
-    from: Ring,
-    block: usize,
-    limits: Limits,
-    budget: FlowBudget,
-) -> Turn
-    requires { ⌜ Room y (length (now s)) × (block < y .blocks) × Good y (scratch y (now s)) from × (budget .work ≤ limits .work) × (limits .work < 2 ^ 64 - 1) ⌝ }
-    ensures { λ r. ⌜ Tells y limits (neighbors Predecessors (scratch y (now (s .entry))) block) (scratch y (now (s .entry))) from budget (scratch y (now (s .exit))) r ⌝ }
-{
-    let n = memory::scratch::get(s, y, layout::PREDECESSOR_COUNT, block) as usize;
-    let mut g = from;
-    let mut left = budget;
-    let mut edge = memory::scratch::get(s, y, layout::FIRST_EDGE, block) as usize;
-    let mut k = 0;
-    while k < n {
-        let c = left.charge(1, limits);
-        let Charged::Ok(b) = c else {
-            return Turn::Stop(c.budget());
-        };
-        left = b;
-        let to = edges::source(edge);
-        edge = edges::next(s, y, edge) as usize;
+        let to = dependents::dependent(s, y, d, block, n, k, edge) as usize;
+        edge = dependents::behind(s, y, d, edge) as usize;
         g = ring::offer(s, y, g, to);
         k += 1;
     }
