@@ -20,6 +20,12 @@ extern "C" {
 #endif
 
 /*
+ * The version of this interface. It grows with a release that adds a call or a refusal, or changes
+ * an answer; CHANGELOG.md says what each version brought.
+ */
+#define KAGARI_FLOW_VERSION 1
+
+/*
  * What is charged so far: steps of work, and bytes of await facts retained. Begin with zeros; hand
  * in the budget of the last answer to let several scripts share one budget. Sums stop at 2^64 - 1.
  */
