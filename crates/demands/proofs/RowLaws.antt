@@ -27,7 +27,7 @@ module _ (code : List Instruction) (parameter : ℕ → Bool) (w : ℕ) where
   rowCells [] = []
   rowCells (c ∷ cs) = wordsOf w (initExit code parameter w c) ∷ wordsOf w (liveEntry code parameter w c) ∷ rowCells cs
 
-  cells-words : (cs : List ℕ) (k : ℕ) → k < 2 * length cs → Words w (cell (rowCells cs) k)
+  cells-words : (cs : List ℕ) (k : ℕ) → k < initializedRow (length cs) → Words w (cell (rowCells cs) k)
   cells-words [] k lt = absurd (omega arith)
   cells-words (c ∷ cs) zero lt = words-of (initExit code parameter w c) w
   cells-words (c ∷ cs) (suc zero) lt = words-of (liveEntry code parameter w c) w
@@ -38,14 +38,14 @@ module _ (code : List Instruction) (parameter : ℕ → Bool) (w : ℕ) where
   initialized-cell [] c lt = absurd (omega arith)
   initialized-cell (d ∷ cs) zero lt = refl
   initialized-cell (d ∷ cs) (suc c) lt =
-      let e : 2 * suc c ≡ suc (suc (2 * c)) = omega arith in
+      let e : initializedRow (suc c) ≡ suc (suc (initializedRow c)) = omega arith in
       ap (cell (rowCells (d ∷ cs))) e ∙ initialized-cell cs c (omega arith)
 
   live-cell : (cs : List ℕ) (c : ℕ) → c < length cs → cell (rowCells cs) (liveRow c) ≡ wordsOf w (liveEntry code parameter w (getD cs c 0))
   live-cell [] c lt = absurd (omega arith)
   live-cell (d ∷ cs) zero lt = refl
   live-cell (d ∷ cs) (suc c) lt =
-      let e : 2 * suc c + 1 ≡ suc (suc (2 * c + 1)) = omega arith in
+      let e : liveRow (suc c) ≡ suc (suc (liveRow c)) = omega arith in
       ap (cell (rowCells (d ∷ cs))) e ∙ live-cell cs c (omega arith)
 
   -- all blocks, as a layout of rows only
