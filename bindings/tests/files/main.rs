@@ -1,5 +1,6 @@
 //! The files that a host reads: the sheets, the page on refusals, the C header, and what the pages name.
 
+mod crates;
 mod header;
 #[allow(dead_code)]
 #[path = "../../../oracle/compare/src/reader.rs"]

@@ -9,10 +9,10 @@ use Rattle.bitset.proofs.SetLaws.{member-zero}
 use Rattle.budget.specs.declared.FlowBudget.{FlowBudget}
 use Rattle.budget.specs.declared.Limits.{Limits}
 use Rattle.budget.specs.Budget.{todays, counted}
-use Rattle.memory.specs.declared.layout.Layout.{Layout}
+use Rattle.sizes.specs.declared.Layout.{Layout}
 use Rattle.memory.specs.Scratch.{Room}
 use Rattle.sheet.specs.Decode.{partsOf}
-use Rattle.sheet.specs.Checks.{scriptOf}
+use Rattle.sheet.specs.Scripts.{scriptOf}
 use Rattle.script.specs.Script.{parameterIn}
 use Rattle.starts.specs.Starts.{parameterWith}
 use Rattle.starts.proofs.StartLaws.{own-below, with-below, with-none}

@@ -6,7 +6,7 @@ use mathlib.Core.Logic.{_↔_}
 use Prim.Native.Nat.{ℕ}
 use Rattle.budget.specs.declared.FlowBudget.{FlowBudget}
 use Rattle.budget.specs.declared.Limits.{Limits}
-use Rattle.memory.specs.declared.layout.Layout.{Layout}
+use Rattle.sizes.specs.declared.Layout.{Layout}
 use Rattle.outcome.specs.Outcome.{Lengths, Outcome, accepted, refused, outcomeOf}
 use Rattle.outcome.specs.Buffers.{setsAfter, scratchAfter}
 use Rattle.demands.specs.Demands.{Demands}

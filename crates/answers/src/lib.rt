@@ -3,7 +3,7 @@ use budget::FlowBudget;
 use budget::Limits;
 use examine::Examined;
 use format::refusal::Refusal;
-use memory::layout::Layout;
+use sizes::Layout;
 ghost use mathlib.Core.Path.{_≡_};
 ghost use Rattle.budget.specs.Budget.{todays};
 ghost use Rattle.sheet.specs.Decode.{partsOf};

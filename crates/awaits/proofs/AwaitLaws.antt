@@ -4,7 +4,7 @@ use mathlib.Core.Bool.{Bool, true, false}
 use mathlib.Core.List.{[], _∷_}
 use Prim.Native.Nat.{ℕ, _+_}
 use native.Mathlib.Omega.{arith}
-use Rattle.bitset.specs.Sets.{common}
+use Rattle.bitset.specs.Operations.{common}
 use Rattle.budget.specs.declared.FlowBudget.{FlowBudget}
 use Rattle.budget.specs.declared.Limits.{Limits}
 use Rattle.budget.specs.declared.Charged.{Charged}
@@ -14,7 +14,7 @@ use Rattle.format.specs.declared.refusal.Refusal.{Refusal}
 use Rattle.format.specs.declared.refusal.Refusal.the-variants.{WorkLimit, HostOverAwait, FactsLimit}
 use Rattle.memory.specs.Cells.{Mem, cell, storeCell}
 use Rattle.memory.specs.Names.{liveStateRow, hostsRow, awaitEntry}
-use Rattle.memory.specs.declared.layout.Layout.{Layout}
+use Rattle.sizes.specs.declared.Layout.{Layout}
 use Rattle.awaits.specs.declared.Points.{Points}
 use Rattle.awaits.specs.declared.Points.the-variants.{Passed, Refused}
 use Rattle.verdict.specs.Points.{stop}

@@ -7,14 +7,13 @@ use native.Mathlib.Omega.{arith}
 use lib.ListN.{length}
 use Rattle.dataflow.specs.Lists.{pick, range, keep}
 use Rattle.dataflow.specs.Analyses.{liveTransfer, liveAlong}
-use Rattle.dataflow.specs.Code.{Instruction, program}
-use Rattle.dataflow.specs.Verdict.{awaitAt}
+use Rattle.dataflow.specs.Code.{Instruction, program, awaitAt}
 use Rattle.budget.specs.declared.FlowBudget.{FlowBudget}
 use Rattle.budget.specs.declared.Limits.{Limits}
 use Rattle.format.specs.declared.refusal.Refusal.{Refusal}
 use Rattle.memory.specs.Cells.{Mem, cell, storeCell}
 use Rattle.memory.specs.Names.{offsetCell, costCell, liveStateRow, hostsRow, awaitEntry}
-use Rattle.memory.specs.declared.layout.Layout.{Layout}
+use Rattle.sizes.specs.declared.Layout.{Layout}
 use Rattle.memory.proofs.CellLaws.{cell-store-same, cell-store-other}
 use Rattle.sheet.specs.declared.script.Script.{Script}
 use Rattle.sheet.specs.Decode.{partsOf}

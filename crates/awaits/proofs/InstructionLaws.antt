@@ -7,12 +7,12 @@ use native.Mathlib.Omega.{arith}
 use borrow.Author.Tests.{ltb-true}
 use lib.Dec.{ltb}
 use lib.ListN.{length, getD}
-use Rattle.bitset.specs.Sets.{common, Words}
+use Rattle.bitset.specs.Sets.{Words}
+use Rattle.bitset.specs.Operations.{common}
 use Rattle.bitset.proofs.SetLaws.{common-member, member-common}
 use Rattle.dataflow.specs.Lists.{pick, range, some}
 use Rattle.dataflow.specs.Analyses.{liveTransfer}
-use Rattle.dataflow.specs.Code.{Instruction, instructionAt, program}
-use Rattle.dataflow.specs.Verdict.{awaitAt}
+use Rattle.dataflow.specs.Code.{Instruction, instructionAt, program, awaitAt}
 use Rattle.dataflow.specs.Charges.{costAt}
 use Rattle.dataflow.proofs.Bools.{and-left, and-right, same-truth}
 use Rattle.dataflow.proofs.Lists.{mem-range, some-at, some-to}
@@ -25,14 +25,13 @@ use Rattle.format.specs.Types.{absent}
 use Rattle.format.specs.declared.refusal.Refusal.the-variants.{WorkLimit, HostOverAwait}
 use Rattle.memory.specs.Cells.{Mem, cell, storeCell}
 use Rattle.memory.specs.Names.{liveStateRow, hostsRow, awaitEntry}
-use Rattle.memory.specs.declared.layout.Layout.{Layout}
+use Rattle.sizes.specs.declared.Layout.{Layout}
 use Rattle.memory.proofs.CellLaws.{cell-store-same, cell-store-other}
 use Rattle.operands.specs.Kinds.{isAwait}
 use Rattle.sheet.specs.declared.script.Script.{Script}
-use Rattle.sheet.specs.Decode.{Parts, partsOf}
+use Rattle.sheet.specs.Decode.{Parts, partsOf, isHost}
 use Rattle.bitset.specs.Below.{AllBelow}
 use Rattle.instructions.specs.Sets.{insertedAll}
-use Rattle.instructions.specs.Slots.{isHost}
 use Rattle.script.specs.Script.{flowCode, hostIn}
 use Rattle.awaits.specs.declared.Points.{Points}
 use Rattle.awaits.specs.declared.Points.the-variants.{Refused}

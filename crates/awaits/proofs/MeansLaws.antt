@@ -6,7 +6,8 @@ use Prim.Native.Nat.{ℕ, _*_}
 use native.Mathlib.Omega.{arith}
 use lib.Dec.{eqb}
 use lib.ListN.{length}
-use Rattle.bitset.specs.Sets.{member, removed}
+use Rattle.bitset.specs.Sets.{member}
+use Rattle.bitset.specs.Operations.{removed}
 use Rattle.bitset.proofs.SetLaws.{same-either-way, length-removed, member-removed}
 use Rattle.dataflow.specs.Lists.{elem}
 use Rattle.dataflow.specs.Analyses.{liveTransfer}

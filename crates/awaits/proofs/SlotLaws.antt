@@ -5,7 +5,7 @@ use Prim.Native.Nat.{ℕ, _+_, _≤_, _<_}
 use native.Mathlib.Numerals.{add-one}
 use lib.ListN.{length, getD, drop, drop-of-length-le}
 use lib.Seq.{drop-cons}
-use Rattle.bitset.specs.Sets.{inserted, removed}
+use Rattle.bitset.specs.Operations.{inserted, removed}
 use Rattle.memory.specs.Cells.{Mem, cell, storeCell}
 use Rattle.memory.proofs.CellLaws.{store-then}
 use Rattle.instructions.specs.Sets.{insertedAll}

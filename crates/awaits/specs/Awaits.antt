@@ -3,18 +3,17 @@ use mathlib.Core.Path.{_≡_}
 use mathlib.Core.Bool.{Bool}
 use mathlib.Core.List.{List, [], _∷_}
 use Prim.Native.Nat.{ℕ, _+_, _-_, _<_}
-use Rattle.bitset.specs.Sets.{common, removed}
+use Rattle.bitset.specs.Operations.{common, removed}
 use Rattle.dataflow.specs.Lists.{pick, range}
 use Rattle.dataflow.specs.Analyses.{liveTransfer}
-use Rattle.dataflow.specs.Code.{program}
-use Rattle.dataflow.specs.Verdict.{awaitAt}
+use Rattle.dataflow.specs.Code.{program, awaitAt}
 use Rattle.budget.specs.declared.FlowBudget.{FlowBudget}
 use Rattle.budget.specs.declared.Limits.{Limits}
 use Rattle.format.specs.declared.refusal.Refusal.the-variants.{HostOverAwait}
 use Rattle.budget.specs.Budget.{charged, retained, factsBytes}
 use Rattle.memory.specs.Cells.{Mem, cell, word, storeCell}
 use Rattle.memory.specs.Names.{costCell, liveStateRow, hostsRow, awaitEntry}
-use Rattle.memory.specs.declared.layout.Layout.{Layout}
+use Rattle.sizes.specs.declared.Layout.{Layout}
 use Rattle.sheet.specs.declared.script.Script.{Script}
 use Rattle.sheet.specs.Decode.{partsOf}
 use Rattle.script.specs.Script.{flowCode, hostIn}

@@ -7,9 +7,9 @@ use budget::Limits;
 use format::refusal::Refusal;
 use instructions::placed;
 use memory::layout;
-use memory::layout::Layout;
 use operands::kinds;
 use sheet::script::Script;
+use sizes::Layout;
 ghost use mathlib.Core.Path.{_≡_};
 ghost use mathlib.Core.Bool.{true};
 ghost use Prim.Native.Nat.{_+_, _≤_, _<_};
@@ -17,7 +17,7 @@ ghost use lib.ListN.{length};
 ghost use Rattle.operands.specs.Kinds.{isAwait};
 ghost use Rattle.memory.specs.Scratch.{scratch, Room};
 ghost use Rattle.memory.specs.Sets.{sets, SetsRoom};
-ghost use Rattle.dataflow.specs.Verdict.{awaitAt};
+ghost use Rattle.dataflow.specs.Code.{awaitAt};
 ghost use Rattle.sheet.specs.Decode.{partsOf};
 ghost use Rattle.script.specs.Script.{flowCode};
 ghost use Rattle.reads.specs.Reads.{Coded, awaitsAmong};
@@ -104,7 +104,7 @@ fn check_instruction(
         × (awaitAt (flowCode (partsOf (now sheet))) pc ≡ true → 0 < place) × (place ≤ y .awaits) ⌝ }
     ensures { λ r. ⌜ InstructionChecked (now (sheet .entry)) script y limits budget pc place (scratch y (now (s .entry))) (scratch y (now (s .exit))) (sets y (now (t .entry))) (sets y (now (t .exit))) r ⌝ }
 {
-    let live = y.live_state();
+    let live = layout::live_state(y);
     let cost = memory::scratch::get(s, y, layout::COST, pc);
     let c = budget.charge(cost, limits);
     let Charged::Ok(b) = c else {
@@ -166,13 +166,20 @@ fn check_await(
     let Charged::Ok(b) = c else {
         return Points::Refused(Refusal::WorkLimit, c.budget());
     };
-    if rows::common(s, y, y.hosts(), y.live_state()) {
+    if rows::common(s, y, layout::hosts(y), layout::live_state(y)) {
         return Points::Refused(Refusal::HostOverAwait, b);
     }
     let k = b.retain(budget::facts_bytes(y.words), limits);
     let Charged::Ok(kept) = k else {
         return Points::Refused(Refusal::FactsLimit, k.budget());
     };
-    rows::put_await(t, y, y.await_entry(place), pc as u64, s, y.live_state());
+    rows::put_await(
+        t,
+        y,
+        layout::await_entry(y, place),
+        pc as u64,
+        s,
+        layout::live_state(y),
+    );
     Points::Passed(place, kept)
 }

@@ -1,12 +1,12 @@
 // The operands of one instruction leave a row of scratch, or join it.
-use memory::layout::Layout;
 use operands::instruction;
 use operands::instruction::Instruction;
 use operands::instruction::SlotOperand;
+use sizes::Layout;
 ghost use mathlib.Core.Path.{_≡_};
 ghost use Prim.Native.Nat.{_*_, _<_};
 ghost use lib.ListN.{length, getD};
-ghost use Rattle.bitset.specs.Sets.{inserted};
+ghost use Rattle.bitset.specs.Operations.{inserted};
 ghost use Rattle.operands.specs.Operands.{inputsOf, outputOf};
 ghost use Rattle.operands.specs.Instructions.{Readable, valuesOf};
 ghost use Rattle.memory.specs.Cells.{cell, storeCell};

@@ -10,7 +10,8 @@ use lib.Bits.{bitAnd, bitOr, bitXor}
 use lib.Dec.{eqb}
 use lib.ListN.{length, take, drop, getD, set, replicate, length-set, length-drop, length-replicate, getD-replicate}
 use lib.Seq.{take-all, take-suc, length-take-le, getD-drop, paste, paste-zero, paste-suc}
-use Rattle.bitset.specs.Sets.{ones, zipped, meet, join, difference, same, common, within}
+use Rattle.bitset.specs.Sets.{ones}
+use Rattle.bitset.specs.Operations.{zipped, meet, join, difference, same, common, within}
 use Rattle.bitset.specs.Rows.{row, patched, Apart}
 use Rattle.bitset.proofs.Digits.{or-zero, xor-zero}
 use Rattle.bitset.proofs.SetLaws.{length-zipped, getD-zipped}

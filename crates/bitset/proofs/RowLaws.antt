@@ -9,7 +9,8 @@ use lib.Bits.{bitAnd, bitOr}
 use lib.Dec.{eqb}
 use lib.ListN.{length, take, drop, getD, set, length-set, take-append-drop, length-append, length-take, length-drop, List·getD-append}
 use lib.Seq.{getD-take, getD-drop, getD-append-add, ext-getD, drop-drop, set-append-left, length-take-le, take-set-le, drop-set-add}
-use Rattle.bitset.specs.Sets.{ones, member, inserted, removed, Words}
+use Rattle.bitset.specs.Sets.{ones, member, Words}
+use Rattle.bitset.specs.Operations.{inserted, removed}
 use Rattle.bitset.specs.Rows.{row, patched, insertedAt, removedAt}
 use Rattle.bitset.proofs.Digits.{bit, mask, tested}
 use Rattle.bitset.proofs.SetLaws.{words-each}

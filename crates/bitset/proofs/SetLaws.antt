@@ -12,7 +12,8 @@ use lib.ListN.{length, getD, set, replicate, length-set, length-replicate, getD-
 use lib.Pow.{pow-lt}
 use lib.Seq.{getD-set-same, getD-set-other, ext-getD}
 use borrow.Author.Tests.{eq-eqb, ne-eqb, eqb-true}
-use Rattle.bitset.specs.Sets.{ones, member, inserted, removed, zipped, meet, join, difference, same, common, within, Words}
+use Rattle.bitset.specs.Sets.{ones, member, Words}
+use Rattle.bitset.specs.Operations.{inserted, removed, zipped, meet, join, difference, same, common, within}
 use Rattle.bitset.proofs.Digits.{bit, bit-and, bit-or, bit-not, bit-zero, bit-ones, bit-pow, bits-tell}
 
 -- ---- past the end, and rows of one word repeated

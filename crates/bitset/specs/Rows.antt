@@ -3,7 +3,7 @@ use mathlib.Core.List.{List, _++_}
 use mathlib.Core.Logic.{_⊎_}
 use Prim.Native.Nat.{ℕ, _+_, _≤_}
 use lib.ListN.{length, take, drop}
-use Rattle.bitset.specs.Sets.{inserted, removed}
+use Rattle.bitset.specs.Operations.{inserted, removed}
 
 -- the w words from base on
 unfoldable pub row : List ℕ → ℕ → ℕ → List ℕ

@@ -5,7 +5,8 @@
 ghost use mathlib.Core.Path.{_≡_};
 ghost use Prim.Native.Nat.{_+_, _≤_, _<_, _/_};
 ghost use lib.ListN.{length, drop, replicate};
-ghost use Rattle.bitset.specs.Sets.{common, within, member, meet, join, difference, same};
+ghost use Rattle.bitset.specs.Sets.{member};
+ghost use Rattle.bitset.specs.Operations.{common, within, meet, join, difference, same};
 ghost use Rattle.bitset.specs.Rows.{row, patched, insertedAt, removedAt, Apart};
 
 // Whether the slot is in the set that begins at base: `contains` of flow.rs.

@@ -5,7 +5,8 @@ use borrow.Author.Tests.{lt-ltb, le-ltb}
 use Rattle.memory.specs.Cells.{Mem, word}
 use Rattle.memory.specs.Names.{startCell, endCell, reachableCell, successorCountCell}
 use Rattle.memory.specs.Edges.{edgeWord}
-use Rattle.block_records.specs.Records.{blockIn, zeroBlock, listedBlock}
+use Rattle.block_records.specs.Records.{blockIn, listedBlock}
+use Rattle.block_records.specs.Blocks.{zeroBlock}
 use Rattle.block_records.specs.declared.Block.{Block}
 
 module _ (m : Mem) (i : ℕ) where

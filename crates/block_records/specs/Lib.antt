@@ -1,2 +1,3 @@
 -- Block structs.
+pub mod Blocks
 pub mod Records

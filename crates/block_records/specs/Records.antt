@@ -6,6 +6,7 @@ use Rattle.memory.specs.Cells.{Mem, word}
 use Rattle.memory.specs.Names.{startCell, endCell, reachableCell, successorCountCell}
 use Rattle.memory.specs.Edges.{edgeWord}
 use Rattle.block_records.specs.declared.Block.{Block}
+use Rattle.block_records.specs.Blocks.{zeroBlock}
 
 -- block i from its words, each cut to 32 bits; the words of a script that passed fit
 abbrev pub blockIn : Mem → ℕ → Block
@@ -17,9 +18,6 @@ blockIn m i = record {
   «successor_0» = edgeWord m i 0 % 2 ^ 32;
   «successor_1» = edgeWord m i 1 % 2 ^ 32;
 }
-
-abbrev pub zeroBlock : Block
-zeroBlock = record { start = 0; end = 0; reachable = 0; «successor_count» = 0; «successor_0» = 0; «successor_1» = 0 }
 
 -- record i of the list of so many blocks
 unfoldable pub listedBlock : Mem → ℕ → ℕ → Block

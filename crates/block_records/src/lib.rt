@@ -1,6 +1,6 @@
 // The block list for hosts: a lent slice of block structs, filled from the words of scratch.
 use memory::layout;
-use memory::layout::Layout;
+use sizes::Layout;
 ghost use mathlib.Core.Path.{_≡_};
 ghost use Prim.Native.Nat.{_<_, _^_, _%_};
 ghost use lib.ListN.{length};

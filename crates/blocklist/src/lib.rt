@@ -1,6 +1,6 @@
 // The block list of a script, from the words of scratch.
 use memory::layout;
-use memory::layout::Layout;
+use sizes::Layout;
 ghost use mathlib.Core.Path.{_≡_};
 ghost use Prim.Native.Nat.{_<_};
 ghost use lib.ListN.{length, getD};

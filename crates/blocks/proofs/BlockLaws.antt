@@ -22,7 +22,7 @@ use Rattle.memory.specs.Names.{usesRow, definesRow}
 use Rattle.memory.specs.Edges.{edgePlace, edgeWord}
 use Rattle.memory.specs.Frame.{Only, ThisRow, RowsOf}
 use Rattle.memory.specs.Scratch.{scratchWidths, Row}
-use Rattle.memory.specs.declared.layout.Layout.{Layout}
+use Rattle.sizes.specs.declared.Layout.{Layout}
 use Rattle.memory.proofs.CellLaws.{Sized, same-word, sized-store, sized-cell, cell-store-same, cell-store-other, word-store-other}
 use Rattle.memory.proofs.FrameLaws.{only-then, only-more, only-cell, only-row}
 use Rattle.memory.proofs.ScratchLaws.{word-put, sized-among, width-row, place-blocks}

@@ -16,7 +16,7 @@ use Rattle.dataflow.specs.Charges.{costAt}
 use Rattle.memory.specs.Cells.{Mem, cell, storeCell}
 use Rattle.memory.specs.Names.{offsetCell, blockOfCell, leaderCell, initializedRow, liveRow}
 use Rattle.memory.specs.Frame.{Only, RowsBefore}
-use Rattle.memory.specs.declared.layout.Layout.{Layout}
+use Rattle.sizes.specs.declared.Layout.{Layout}
 use Rattle.memory.proofs.CellLaws.{cell-store-same, cell-store-other}
 use Rattle.memory.proofs.FrameLaws.{only-none, only-then, only-more}
 use Rattle.budget.specs.declared.FlowBudget.{FlowBudget}

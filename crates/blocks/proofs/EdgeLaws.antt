@@ -10,7 +10,7 @@ use Rattle.memory.specs.Names.{blockOfCell, successorCell, successorCountCell}
 use Rattle.memory.specs.Edges.{edgePlace, edgeWord, storeEdge}
 use Rattle.memory.specs.Frame.{Only, NoRow}
 use Rattle.memory.specs.Scratch.{scratchWidths}
-use Rattle.memory.specs.declared.layout.Layout.{Layout}
+use Rattle.sizes.specs.declared.Layout.{Layout}
 use Rattle.memory.proofs.CellLaws.{Sized, same-word, sized-store, word-store-other}
 use Rattle.memory.proofs.FrameLaws.{only-none, only-then, only-more, only-cell}
 use Rattle.memory.proofs.ScratchLaws.{word-put, place-blocks, place-successors}

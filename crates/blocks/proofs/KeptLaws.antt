@@ -13,7 +13,7 @@ use Rattle.memory.specs.Names.{offsetCell, blockOfCell, leaderCell, costCell, s
 use Rattle.memory.specs.Names.{usesRow, definesRow}
 use Rattle.memory.specs.Edges.{edgePlace, edgeWord}
 use Rattle.memory.specs.Frame.{Only, spared, RowsOf}
-use Rattle.memory.specs.declared.layout.Layout.{Layout}
+use Rattle.sizes.specs.declared.Layout.{Layout}
 use Rattle.memory.proofs.CellLaws.{same-word}
 use Rattle.sheet.specs.declared.script.Script.{Script}
 use Rattle.blocks.specs.Blocks.{Ready, BlockWords, BlockRows, Block, blockCells}

@@ -8,10 +8,11 @@ use native.Mathlib.Omega.{arith}
 use borrow.Author.Tests.{eq-eqb, ne-eqb}
 use lib.Dec.{eqb}
 use lib.ListN.{length, replicate, length-replicate}
-use Rattle.bitset.specs.Sets.{member, inserted}
+use Rattle.bitset.specs.Sets.{member}
+use Rattle.bitset.specs.Operations.{inserted}
 use Rattle.bitset.proofs.SetLaws.{length-inserted, member-inserted, member-zero}
 use Rattle.dataflow.specs.Lists.{pick, elem}
-use Rattle.dataflow.specs.Blocks.{uses, defines}
+use Rattle.dataflow.specs.BasicBlocks.{uses, defines}
 use Rattle.dataflow.specs.Code.{Instruction, instructionAt, program, body}
 use Rattle.bitset.specs.Below.{AllBelow}
 use Rattle.instructions.specs.Sets.{insertedAll}

@@ -10,7 +10,8 @@ use lib.ListN.{length, getD, length-append}
 use Rattle.operands.specs.Places.{Place, one, optional, rest, absent, gathered}
 use Rattle.operands.specs.Patterns.{S, Sopt, roleAt}
 use Rattle.operands.specs.Variants.{variants, jumpTargets}
-use Rattle.operands.specs.Operands.{bySource, singlePlace, placesFrom, inputsOf, targetsOf}
+use Rattle.operands.specs.Operands.{bySource, inputsOf, targetsOf}
+use Rattle.operands.specs.ByPattern.{singlePlace, placesFrom}
 use Rattle.operands.specs.Instructions.{Readable, valuesOf, valueOf, slotIn}
 use Rattle.operands.specs.declared.slots.Slot.{Slot}
 use Rattle.operands.specs.declared.instruction.Instruction.{Instruction}

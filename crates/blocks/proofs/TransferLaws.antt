@@ -13,7 +13,7 @@ use Rattle.memory.specs.Cells.{Mem, cell, word, store, storeCell}
 use Rattle.memory.specs.Names.{offsetCell, costCell, firstRow, usesRow, definesRow}
 use Rattle.memory.specs.Frame.{Only, NoRow, ThisRow, RowsOf}
 use Rattle.memory.specs.Scratch.{scratchWidths, scratchCells}
-use Rattle.memory.specs.declared.layout.Layout.{Layout}
+use Rattle.sizes.specs.declared.Layout.{Layout}
 use Rattle.memory.proofs.CellLaws.{Sized, same-word, sized-store, cell-store-same, word-store-other}
 use Rattle.memory.proofs.FrameLaws.{only-none, only-then, only-more, only-cell, only-row}
 use Rattle.memory.proofs.ScratchLaws.{word-put, scratch-count, place-instructions}

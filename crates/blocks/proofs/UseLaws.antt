@@ -7,7 +7,8 @@ use native.Mathlib.Numerals.{add-one}
 use native.Mathlib.Omega.{arith}
 use lib.ListN.{length, getD, drop, drop-of-length-le}
 use lib.Seq.{drop-cons, set-getD}
-use Rattle.bitset.specs.Sets.{member, inserted}
+use Rattle.bitset.specs.Sets.{member}
+use Rattle.bitset.specs.Operations.{inserted}
 use Rattle.dataflow.specs.Lists.{pick}
 use Rattle.memory.specs.Cells.{Mem, cell, storeCell}
 use Rattle.memory.specs.Names.{usesRow, definesRow}

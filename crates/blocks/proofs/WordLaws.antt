@@ -9,7 +9,7 @@ use lib.Seq.{drop-cons}
 use Rattle.memory.specs.Cells.{Mem, word, store, storeCell}
 use Rattle.memory.specs.Names.{blockOfCell, leaderCell, startCell, endCell, successorCountCell}
 use Rattle.memory.specs.Edges.{storeEdge}
-use Rattle.memory.specs.declared.layout.Layout.{Layout}
+use Rattle.sizes.specs.declared.Layout.{Layout}
 use Rattle.blocks.specs.Words.{endOf, spanned, nextOf, countedEdges, linkEdges, putEdges}
 
 -- a start and an end noted

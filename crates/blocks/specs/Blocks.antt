@@ -5,14 +5,14 @@ use mathlib.Core.List.{List, [], _∷_, map}
 use Prim.Native.Nat.{ℕ, suc, _≤_, _<_}
 use lib.ListN.{length, getD, replicate}
 use Rattle.bitset.specs.Sets.{member, ones}
-use Rattle.dataflow.specs.Blocks.{uses, defines}
+use Rattle.dataflow.specs.BasicBlocks.{uses, defines}
 use Rattle.dataflow.specs.Code.{Instruction, program, leaders, body, blockSuccessors}
 use Rattle.dataflow.specs.Charges.{costAt, operandCharges}
 use Rattle.memory.specs.Cells.{Mem, cell, word}
 use Rattle.memory.specs.Names.{costCell, startCell, endCell, successorCell, successorCountCell, usesRow, definesRow, initializedRow, liveRow}
 use Rattle.memory.specs.Edges.{edgeWord}
 use Rattle.memory.specs.Frame.{Only, RowsOf, RowsBefore}
-use Rattle.memory.specs.declared.layout.Layout.{Layout}
+use Rattle.sizes.specs.declared.Layout.{Layout}
 use Rattle.budget.specs.declared.FlowBudget.{FlowBudget}
 use Rattle.budget.specs.declared.Limits.{Limits}
 use Rattle.budget.specs.declared.Charged.{Charged}

@@ -2,7 +2,8 @@
 use mathlib.Core.Path.{_≡_}
 use mathlib.Core.List.{List, [], _∷_, map}
 use Prim.Native.Nat.{ℕ, _-_, _≤_, _<_}
-use Rattle.bitset.specs.Sets.{member, inserted}
+use Rattle.bitset.specs.Sets.{member}
+use Rattle.bitset.specs.Operations.{inserted}
 use Rattle.dataflow.specs.Lists.{pick, range}
 use Rattle.dataflow.specs.Code.{Instruction, instructionAt}
 use Rattle.dataflow.specs.Charges.{costAt}

@@ -8,7 +8,7 @@ use Rattle.dataflow.specs.Lists.{pick}
 use Rattle.memory.specs.Cells.{Mem, word, store}
 use Rattle.memory.specs.Names.{blockOfCell, leaderCell, startCell, endCell, successorCountCell}
 use Rattle.memory.specs.Edges.{storeEdge}
-use Rattle.memory.specs.declared.layout.Layout.{Layout}
+use Rattle.sizes.specs.declared.Layout.{Layout}
 
 -- where block b ends: at the next one's start, the last one at the end of the code
 unfoldable pub endOf : Layout → Mem → ℕ → ℕ

@@ -7,8 +7,8 @@ use budget::FlowBudget;
 use budget::Limits;
 use instructions::placed;
 use memory::layout;
-use memory::layout::Layout;
 use sheet::script::Script;
+use sizes::Layout;
 ghost use mathlib.Core.Path.{_≡_};
 ghost use Prim.Native.Nat.{_<_};
 ghost use lib.ListN.{length, replicate};
@@ -76,8 +76,8 @@ fn empty(s: &mut [u64], y: Layout, index: usize)
     requires { ⌜ Room y (length (now s)) × (index < y .blocks) ⌝ }
     ensures { λ _. ⌜ scratch y (now (s .exit)) ≡ storeCell (storeCell (scratch y (now (s .entry))) (usesRow index) (replicate (y .words) 0)) (definesRow index) (replicate (y .words) 0) ⌝ }
 {
-    rows::fill(s, y, y.uses(index), 0);
-    rows::fill(s, y, y.defines(index), 0);
+    rows::fill(s, y, layout::uses(y, index), 0);
+    rows::fill(s, y, layout::defines(y, index), 0);
 }
 
 // The block's sets as the source begins them.
@@ -85,6 +85,6 @@ fn fresh(t: &mut [u64], y: Layout, index: usize)
     requires { ⌜ SetsRoom y (length (now t)) × (index < y .blocks) ⌝ }
     ensures { λ _. ⌜ sets y (now (t .exit)) ≡ storeCell (storeCell (sets y (now (t .entry))) (initializedRow index) (replicate (y .words) ones)) (liveRow index) (replicate (y .words) 0) ⌝ }
 {
-    rows::fill_sets(t, y, y.initialized(index), 18446744073709551615);
-    rows::fill_sets(t, y, y.live(index), 0);
+    rows::fill_sets(t, y, layout::initialized(y, index), 18446744073709551615);
+    rows::fill_sets(t, y, layout::live(y, index), 0);
 }

@@ -1,10 +1,10 @@
 // The edges of a block: to the blocks of its last instruction's targets, or to the block behind it.
 use memory::layout;
-use memory::layout::Layout;
 use operands::instruction;
 use operands::instruction::Instruction;
 use operands::instruction::TargetOperand;
 use operands::kinds;
+use sizes::Layout;
 ghost use mathlib.Core.Path.{_≡_};
 ghost use mathlib.Core.Bool.{false};
 ghost use Prim.Native.Nat.{_<_};

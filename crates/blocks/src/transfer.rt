@@ -4,15 +4,16 @@ use budget::FlowBudget;
 use budget::Limits;
 use instructions::placed;
 use memory::layout;
-use memory::layout::Layout;
 use operands::instruction;
 use operands::instruction::Instruction;
 use operands::instruction::SlotOperand;
 use sheet::script::Script;
+use sizes::Layout;
 ghost use mathlib.Core.Path.{_≡_};
 ghost use Prim.Native.Nat.{_+_, _*_, _≤_, _<_};
 ghost use lib.ListN.{length, getD};
-ghost use Rattle.bitset.specs.Sets.{member, inserted};
+ghost use Rattle.bitset.specs.Sets.{member};
+ghost use Rattle.bitset.specs.Operations.{inserted};
 ghost use Rattle.dataflow.specs.Lists.{pick};
 ghost use Rattle.operands.specs.Operands.{inputsOf, outputOf};
 ghost use Rattle.operands.specs.Instructions.{Readable, valuesOf};
@@ -79,7 +80,13 @@ fn use_input(sheet: &[u8], s: &mut [u64], y: Layout, block: usize, i: Instructio
     let SlotOperand::Is(slot) = instruction::slot_input(sheet, i, k) else {
         return;
     };
-    insert_unless(s, y, y.uses(block), y.defines(block), slot.index());
+    insert_unless(
+        s,
+        y,
+        layout::uses(y, block),
+        layout::defines(y, block),
+        slot.index(),
+    );
 }
 
 // Puts the slot into row k unless it is in row d.
@@ -97,7 +104,7 @@ fn define_output(sheet: &[u8], s: &mut [u64], y: Layout, block: usize, i: Instru
     requires { ⌜ (Readable (now sheet) i) × Room y (length (now s)) × (block < y .blocks) × (AllBelow (64 * y .words) (listOf (outputOf (i .pattern .kind) (valuesOf (now sheet) i)))) ⌝ }
     ensures { λ _. ⌜ scratch y (now (s .exit)) ≡ storeCell (scratch y (now (s .entry))) (definesRow block) (insertedAll (listOf (outputOf (i .pattern .kind) (valuesOf (now (sheet .entry)) i))) (cell (scratch y (now (s .entry))) (definesRow block))) ⌝ }
 {
-    insert_output(sheet, s, y, y.defines(block), i);
+    insert_output(sheet, s, y, layout::defines(y, block), i);
 }
 
 // The output of an instruction joins a row.

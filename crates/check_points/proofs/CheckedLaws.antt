@@ -7,19 +7,18 @@ use Prim.Native.Nat.{ℕ, _+_, _-_, _^_, _≤_, _<_}
 use native.Mathlib.Omega.{arith}
 use lib.ListN.{length, getD}
 use denote.Enum.Declared.{tagOf}
-use Rattle.dataflow.specs.Lists.{pick, range, keep}
-use Rattle.dataflow.specs.Blocks.{uses}
-use Rattle.dataflow.specs.Code.{program, body}
+use Rattle.dataflow.specs.Lists.{pick, range, keep, flag}
+use Rattle.dataflow.specs.BasicBlocks.{uses}
+use Rattle.dataflow.specs.Code.{program, body, awaitAt}
 use Rattle.dataflow.specs.Results.{reachable, initEntry, liveExit}
-use Rattle.dataflow.specs.Verdict.{awaitAt}
 use Rattle.budget.specs.declared.FlowBudget.{FlowBudget}
 use Rattle.budget.specs.declared.Limits.{Limits}
 use Rattle.format.specs.declared.refusal.Refusal.{Refusal}
 use Rattle.memory.specs.Cells.{Mem, cell, word, storeCell}
-use Rattle.memory.specs.Names.{flag, costCell, startCell, endCell, reachableCell, stateRow, liveStateRow}
+use Rattle.memory.specs.Names.{costCell, startCell, endCell, reachableCell, stateRow, liveStateRow}
 use Rattle.memory.specs.Scratch.{scratch, Room}
 use Rattle.memory.specs.Sets.{sets, SetsRoom}
-use Rattle.memory.specs.declared.layout.Layout.{Layout}
+use Rattle.sizes.specs.declared.Layout.{Layout}
 use Rattle.sheet.specs.declared.script.Script.{Script}
 use Rattle.sheet.specs.Decode.{partsOf}
 use Rattle.script.specs.Script.{hostIn}

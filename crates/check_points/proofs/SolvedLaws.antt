@@ -15,7 +15,7 @@ use Rattle.memory.specs.Names.{offsetCell, costCell, startCell, endCell, firstR
 use Rattle.memory.specs.Edges.{Connected}
 use Rattle.memory.specs.Scratch.{scratch, scratchCells, Room}
 use Rattle.memory.specs.Sets.{sets, SetsRoom, SetsRow}
-use Rattle.memory.specs.declared.layout.Layout.{Layout}
+use Rattle.sizes.specs.declared.Layout.{Layout}
 use Rattle.memory.proofs.CellLaws.{cell-store-same, cell-store-other, same-word}
 use Rattle.memory.proofs.ScratchLaws.{scratch-length, row-words}
 use Rattle.memory.proofs.SetsLaws.{sets-row-words}

@@ -9,17 +9,16 @@ use native.Mathlib.Omega.{arith}
 use lib.ListN.{length, getD, length-map}
 use Rattle.dataflow.specs.Lists.{pick, range, keep}
 use Rattle.dataflow.specs.Code as flow
-use Rattle.dataflow.specs.Code.{body, outside}
+use Rattle.dataflow.specs.Code.{body, outside, awaitAt}
 use Rattle.dataflow.specs.Results.{reachable, liveExit}
-use Rattle.dataflow.specs.Verdict.{awaitAt}
 use Rattle.dataflow.proofs.Lists.{map-at}
 use Rattle.operands.specs.Kinds.{isAwait}
 use Rattle.memory.specs.Cells.{Mem, word}
 use Rattle.memory.specs.Names.{startCell, endCell}
-use Rattle.memory.specs.declared.layout.Layout.{Layout}
+use Rattle.sizes.specs.declared.Layout.{Layout}
 use Rattle.sheet.specs.declared.script.Script.{Script}
 use Rattle.sheet.specs.Decode.{Instruction, partsOf}
-use Rattle.sheet.specs.Checks.{awaitsIn}
+use Rattle.sheet.specs.Scripts.{awaitsIn}
 use Rattle.instructions.specs.Sound.{Sound}
 use Rattle.script.specs.Script.{flowInstruction, flowCode, parameterIn}
 use Rattle.script.proofs.ScriptLaws.{code-length, checked}

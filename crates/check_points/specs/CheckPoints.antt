@@ -12,12 +12,13 @@ use Rattle.budget.specs.declared.Limits.{Limits}
 use Rattle.memory.specs.Cells.{Mem, cell, word}
 use Rattle.memory.specs.Names.{startCell, endCell, stateRow, liveStateRow, awaitEntry}
 use Rattle.memory.specs.Sets.{SetsRow}
-use Rattle.memory.specs.declared.layout.Layout.{Layout}
+use Rattle.sizes.specs.declared.Layout.{Layout}
 use Rattle.sheet.specs.declared.script.Script.{Script}
 use Rattle.sheet.specs.Decode.{partsOf}
 use Rattle.script.specs.Script.{flowCode, hostIn}
 use Rattle.edges.specs.Flow.{Flows}
-use Rattle.fixed_points.specs.FixedPoints.{Scripted, Sets}
+use Rattle.fixed_points.specs.FixedPoints.{Sets}
+use Rattle.dataflow.specs.Checked.{Scripted}
 use Rattle.verdict.specs.Points.{Point, awaitsRun, blockRun, pointsRun, awaitPoints, points}
 use Rattle.awaits.specs.declared.Points.{Points}
 use Rattle.awaits.specs.declared.Points.the-variants.{Passed, Refused}

@@ -6,7 +6,8 @@ use lib.Seq.{append-snoc}
 use Rattle.dataflow.specs.Program.{Program}
 use Rattle.dataflow.specs.Paths.{Path, stop, step, Reached}
 use Rattle.dataflow.specs.Analyses.{initialization, liveness, written, initAlong}
-use Rattle.dataflow.specs.Blocks.{BlockGraph, BasicBlocks, blockProgram, pointsOf, Place}
+use Rattle.dataflow.specs.Blocks.{BlockGraph, blockProgram, pointsOf}
+use Rattle.dataflow.specs.BasicBlocks.{BasicBlocks, Place}
 use Rattle.dataflow.proofs.Paths.{path-append}
 use Rattle.dataflow.proofs.Analyses.{written-append, init-append}
 use Rattle.dataflow.proofs.Blocks.{init-gen-kill}

@@ -4,7 +4,8 @@ use mathlib.Core.Bool.{Bool, true, false, not, _&&_, _||_, or-false}
 use mathlib.Core.List.{List, [], _∷_}
 use Rattle.dataflow.specs.Program.{Program, EmptiesNothing}
 use Rattle.dataflow.specs.Analyses.{written, initAlong, liveAlong}
-use Rattle.dataflow.specs.Blocks.{exposed, uses, defines}
+use Rattle.dataflow.specs.Blocks.{exposed}
+use Rattle.dataflow.specs.BasicBlocks.{uses, defines}
 use Rattle.dataflow.proofs.Analyses.{along-mono, along-plain}
 
 module _ {P S : Type 0} (p : Program P S) where

@@ -6,7 +6,7 @@ use Prim.Native.Nat.{ℕ, _+_}
 use lib.Dec.{lit≤}
 use Rattle.dataflow.specs.Analyses.{initialization, liveness, liveAlong}
 use Rattle.dataflow.specs.Lists.{elem, tabulate, sum}
-use Rattle.dataflow.specs.Code.{Instruction, blocks, leaders, program}
+use Rattle.dataflow.specs.Code.{Instruction, blocks, leaders, program, awaitAt}
 use Rattle.dataflow.specs.Worklist.{unchanged, changed, run}
 use Rattle.dataflow.specs.Framework.{solution}
 use Rattle.dataflow.specs.FlowGraph.{initAtEntry, liveAtEntry}
@@ -14,7 +14,7 @@ use Rattle.dataflow.specs.Search.{search, turns, sweep}
 use Rattle.dataflow.specs.Results.{reachable, postorder, result, liveExit}
 use Rattle.dataflow.specs.Demand.{Faulty}
 use Rattle.dataflow.specs.Checked.{Checked}
-use Rattle.dataflow.specs.Verdict.{accepts, awaitAt}
+use Rattle.dataflow.specs.Verdict.{accepts}
 use Rattle.dataflow.specs.Charges.{leaderCharges, operandCharges, reachabilityCharges, postorderCharges, propagateCharges}
 use Rattle.dataflow.proofs.Checked.{checks-checked}
 use Rattle.dataflow.proofs.Verdict.{accepts-iff, refuses-faulty}

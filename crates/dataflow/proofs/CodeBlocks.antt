@@ -13,7 +13,8 @@ use lib.Dec.{eqb}
 use Rattle.dataflow.specs.Paths.{Path, stop, step, Reached}
 use Rattle.dataflow.specs.Analyses.{initialization}
 use Rattle.dataflow.specs.Lists.{pick, elem}
-use Rattle.dataflow.specs.Blocks.{BasicBlocks, blockProgram, Place}
+use Rattle.dataflow.specs.Blocks.{blockProgram}
+use Rattle.dataflow.specs.BasicBlocks.{BasicBlocks, Place}
 use Rattle.dataflow.specs.Code.{Instruction, outside, instructionAt, successors, program, leader, prepend, headOr, lastOr, indexOf}
 use Rattle.dataflow.specs.Code.{blocksFrom, blocks, leaders, body, blockSuccessors, blockGraph}
 use Rattle.dataflow.specs.Checked.{Checked}

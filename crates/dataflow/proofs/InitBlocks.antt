@@ -8,7 +8,8 @@ use Rattle.dataflow.specs.Paths.{Path, Reached}
 use Rattle.dataflow.specs.Analyses.{initialization, initAlong, filled, Lost}
 use Rattle.dataflow.specs.Demand.{Unfilled}
 use Rattle.dataflow.specs.Equations.{InitExact}
-use Rattle.dataflow.specs.Blocks.{BlockGraph, BasicBlocks, blockProgram, pointsOf, Place}
+use Rattle.dataflow.specs.Blocks.{BlockGraph, blockProgram, pointsOf}
+use Rattle.dataflow.specs.BasicBlocks.{BasicBlocks, Place}
 use Rattle.dataflow.specs.Verdict.{UnfilledInBlock}
 use Rattle.dataflow.proofs.Bools.{not-true}
 use Rattle.dataflow.proofs.Paths.{path-append}

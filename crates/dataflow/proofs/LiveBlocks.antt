@@ -9,7 +9,8 @@ use Rattle.dataflow.specs.Paths.{Path, stop, step, Reached}
 use Rattle.dataflow.specs.Analyses.{liveness, written, liveAlong, Live}
 use Rattle.dataflow.specs.Demand.{Least}
 use Rattle.dataflow.specs.Equations.{LiveExact}
-use Rattle.dataflow.specs.Blocks.{BlockGraph, BasicBlocks, exposed, blockProgram, pointsOf, Place}
+use Rattle.dataflow.specs.Blocks.{BlockGraph, exposed, blockProgram, pointsOf}
+use Rattle.dataflow.specs.BasicBlocks.{BasicBlocks, Place}
 use Rattle.dataflow.proofs.Bools.{or-no-left, or-no-right, live-cases, live-pass}
 use Rattle.dataflow.proofs.Paths.{path-append, reached-next}
 use Rattle.dataflow.proofs.Analyses.{written-append}

@@ -16,15 +16,17 @@ use Rattle.dataflow.specs.Analyses.{InitAfter, Live}
 use Rattle.dataflow.specs.Demand.{Unfilled, Saves, Least}
 use Rattle.dataflow.specs.Equations.{InitExact, LiveExact}
 use Rattle.dataflow.specs.Lists.{tabulate, sum, NoDup}
-use Rattle.dataflow.specs.Blocks.{BasicBlocks, exposed, blockProgram, Place}
+use Rattle.dataflow.specs.Blocks.{exposed, blockProgram}
+use Rattle.dataflow.specs.BasicBlocks.{BasicBlocks, Place}
 use Rattle.dataflow.specs.Code.{Instruction, program, headOr, blocks, body, blockSuccessors, blockGraph}
+use Rattle.dataflow.specs.BlockPaths.{firstOf, ReachedBlock}
 use Rattle.dataflow.specs.Checked.{Checked}
 use Rattle.dataflow.specs.Worklist.{SoundRing, run}
 use Rattle.dataflow.specs.Framework.{solverOf, begin, visits, solution, enough}
 use Rattle.dataflow.specs.FlowGraph.{FlowGraph, framework}
 use Rattle.dataflow.specs.Search.{turns, searchFrom, allTurns}
 use Rattle.dataflow.specs.Results.{blockCount, predecessors, swept, reachable, searched, postorder, seed, flowGraph, result, initExit}
-use Rattle.dataflow.specs.Results.{initEntry}
+use Rattle.dataflow.specs.Results.{initEntry, Ended}
 use Rattle.dataflow.specs.Results.{liveEntry, liveExit}
 use Rattle.dataflow.specs.Verdict.{UnfilledInBlock}
 use Rattle.dataflow.proofs.Bools.{and-right, or-yes, test-true, true-test, live-cases}
@@ -37,10 +39,10 @@ use Rattle.dataflow.proofs.BlockPaths.{entry-place, reached-point}
 use Rattle.dataflow.proofs.InitBlocks.{point-lost, place-filled, unfilled-in-block}
 use Rattle.dataflow.proofs.LiveBlocks.{point-live, live-point, live-first-iff}
 use Rattle.dataflow.proofs.Leaders.{block-place-unique}
-use Rattle.dataflow.proofs.CodeBlocks.{successors-below, successors-past, blocks-some, basic-blocks, reached-below}
+use Rattle.dataflow.proofs.CodeBlocks.{successors-below, successors-past, blocks-some, basic-blocks, reached-below, reached-iff}
 use Rattle.dataflow.proofs.Predecessors.{predecessors-of, predecessors-to}
-use Rattle.dataflow.proofs.Search.{postorder-lists, postorder-turns}
-use Rattle.dataflow.proofs.Reachability.{sweep-length, sweep-visits, sweep-takes}
+use Rattle.dataflow.proofs.Search.{postorder-ends, postorder-lists, postorder-turns}
+use Rattle.dataflow.proofs.Reachability.{sweep-done, sweep-length, sweep-visits, sweep-takes}
 use Rattle.dataflow.proofs.Solution.{solution-ends, unreached-kept}
 use Rattle.dataflow.proofs.Worklist.{run-fuel}
 use Rattle.dataflow.proofs.Visits.{visit-bound}
@@ -237,6 +239,14 @@ module _ (code : List Instruction) (parameter : ℕ → Bool) where
     result-ends liveness = solution-ends (framework (flowGraph code parameter words liveness) liveness) (Live backwardProgram)
         (live-monotone (flowGraph code parameter words liveness) live-sound-graph) (seed code liveness) (seed-sound liveness) (λ b lt e. e)
 
+    -- so does each search: every defined run has ended
+    pub runs-ended : Ended code parameter words
+    runs-ended = record {
+      reachability = sweep-done (blockSuccessors code) (blockCount code) 0 some-block next-below;
+      postorder = postorder-ends (blockSuccessors code) (blockCount code) 0 some-block next-below;
+      rounds = result-ends;
+    }
+
     pub result-fuel : (d : Direction) (k : ℕ)
         → run (solverOf (framework (flowGraph code parameter words d) d)) k
         (begin (framework (flowGraph code parameter words d) d) (seed code d)) .ring .queue ≡ []
@@ -262,6 +272,13 @@ module _ (code : List Instruction) (parameter : ℕ → Bool) where
 
     bs : BasicBlocks p (blockGraph code)
     bs = basic-blocks code parameter slots ch
+
+    -- A block is marked reachable exactly if a path of instructions reaches it.
+    pub reachable-block : (b : ℕ) → b < blockCount code → (reachable code b ≡ true) ↔ ReachedBlock code parameter b
+    reachable-block b lt =
+        let f = bs .starts b in
+        let i = reached-iff code parameter slots ch b lt [] (firstOf code parameter b) (f .0) (f .1) in
+        ((λ e. i .1 (reachable-iff b .0 e)), λ r. reachable-iff b .1 (i .0 r))
 
     -- ── At the instructions: demand 2 ──
 

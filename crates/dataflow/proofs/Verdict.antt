@@ -10,11 +10,12 @@ use Rattle.dataflow.specs.Paths.{Path, Reached}
 use Rattle.dataflow.specs.Analyses.{initialization, initTransfer, initAlong, filled, liveAlong}
 use Rattle.dataflow.specs.Demand.{Unfilled, Least, Held, Faulty}
 use Rattle.dataflow.specs.Lists.{range, every, some}
-use Rattle.dataflow.specs.Blocks.{blockProgram, BasicBlocks, Place}
-use Rattle.dataflow.specs.Code.{Instruction, instructionAt, successors, program, body, blockGraph}
+use Rattle.dataflow.specs.Blocks.{blockProgram}
+use Rattle.dataflow.specs.BasicBlocks.{BasicBlocks, Place}
+use Rattle.dataflow.specs.Code.{Instruction, instructionAt, successors, program, body, blockGraph, awaitAt}
 use Rattle.dataflow.specs.Checked.{Checked}
 use Rattle.dataflow.specs.Results.{blockCount, reachable, initEntry, liveExit}
-use Rattle.dataflow.specs.Verdict.{UnfilledInBlock, unfilledRead, hostSaved, blockUnfilled, blockHolds, accepts, awaitAt}
+use Rattle.dataflow.specs.Verdict.{UnfilledInBlock, unfilledRead, hostSaved, blockUnfilled, blockHolds, accepts}
 use Rattle.dataflow.proofs.Bools.{and-left, and-right, and-no, or-yes, or-no-left, or-no-right, not-yes, not-no}
 use Rattle.dataflow.proofs.Lists.{every-at, every-no, every-to, some-at, some-to, elem-mem, mem-elem, mem-range}
 use Rattle.dataflow.proofs.BlockPaths.{entry-place, reached-point}

@@ -46,12 +46,18 @@ abbrev pub traceCharges : ℕ → (ℕ → List ℕ) → (ℕ → List ℕ) → 
 traceCharges words reads dependents [] = []
 traceCharges words reads dependents (x ∷ l) = traceCharges words reads dependents l ++ visitCharges words reads dependents x
 
+-- Document 01's X, what `index` of availability.rs charges over an empty list: how many ranges there are, 0. It adds nothing, but work that was
+-- handed in above the limit ends here.
+abbrev pub indexCharges : List ℕ
+indexCharges = 0 ∷ []
+
 module _ (code : List Instruction) where
   -- `graph`, the first loop: one for each instruction
   abbrev pub leaderCharges : List ℕ
   leaderCharges = replicate (length code) 1
 
-  -- what an instruction's reads are charged: one more than its inputs
+  -- what an instruction's reads are charged: one more than its inputs. Document 01's V, what one `visit` of availability.rs charges beside them, is
+  -- no charge at all over an empty list.
   abbrev pub costAt : ℕ → ℕ
   costAt i = length (instructionAt code i .inputs) + 1
 
@@ -77,3 +83,19 @@ module _ (code : List Instruction) where
   propagateCharges parameter words liveness =
       (blockCount code + length (searched code .finished))
       ∷ traceCharges words (blockSuccessors code) (predecessors code) (result code parameter words liveness .trace)
+
+  -- up to where the blocks are counted: the index, then the first loop of `graph`
+  abbrev pub countingCharges : List ℕ
+  countingCharges = indexCharges ++ leaderCharges
+
+  -- the rest of `graph`, then `reachability`
+  abbrev pub buildingCharges : List ℕ
+  buildingCharges = operandCharges ++ reachabilityCharges
+
+  -- both rounds of `propagate`
+  abbrev pub roundsCharges : (ℕ → Bool) → ℕ → List ℕ
+  roundsCharges parameter words = propagateCharges parameter words initialization ++ propagateCharges parameter words liveness
+
+  -- `fixed_points`
+  abbrev pub fixedPointsCharges : (ℕ → Bool) → ℕ → List ℕ
+  fixedPointsCharges parameter words = postorderCharges ++ roundsCharges parameter words

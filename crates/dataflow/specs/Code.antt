@@ -26,6 +26,9 @@ module _ (code : List Instruction) where
   abbrev pub instructionAt : ℕ → Instruction
   instructionAt i = getD code i outside
 
+  abbrev pub awaitAt : ℕ → Bool
+  awaitAt i = instructionAt i .isAwait
+
   -- Document 01: "After kinds 12, 38 and 39 comes any of their targets, after 40 and 41 nothing, after the rest the next instruction".
   abbrev pub successors : ℕ → List ℕ
   successors i = pick (instructionAt i .ends) (instructionAt i .targets) (suc i ∷ [])

@@ -6,7 +6,9 @@ pub mod Demand
 pub mod Equations
 pub mod Lists
 pub mod Blocks
+pub mod BasicBlocks
 pub mod Code
+pub mod BlockPaths
 pub mod Checked
 pub mod Worklist
 pub mod Framework

@@ -1,4 +1,4 @@
--- Lists of numbers, and tests over lists.
+-- A choice by a test, lists of numbers, and tests over lists.
 use mathlib.Core.Bool.{Bool, true, false, _&&_, _||_}
 use mathlib.Core.List.{List, [], _∷_, List·Memᴰ}
 use Prim.Native.Nat.{ℕ, zero, suc, _+_}
@@ -7,6 +7,11 @@ use lib.Dec.{eqb}
 abbrev pub pick : {A : Type 0} → Bool → A → A → A
 pick true a b = a
 pick false a b = b
+
+-- a mark as a number
+abbrev pub flag : Bool → ℕ
+flag true = 1
+flag false = 0
 
 -- f k, f (k + 1), .., n of them
 abbrev pub tabulate : {A : Type 0} → ℕ → ℕ → (ℕ → A) → List A

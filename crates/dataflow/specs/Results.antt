@@ -1,4 +1,5 @@
 -- The definitions put together, on code: the blocks' flow graph, the two runs, and the sets that they end with.
+use mathlib.Core.Path.{_≡_}
 use mathlib.Core.Bool.{Bool, false}
 use mathlib.Core.List.{List, [], _∷_, reverse}
 use Prim.Native.Nat.{ℕ, suc, _*_}
@@ -77,3 +78,11 @@ module _ (code : List Instruction) where
 
     abbrev pub liveExit : ℕ → ℕ → Bool
     liveExit = liveOut (flowGraph liveness) liveEntry
+
+-- The defined runs take so many turns at most; none of them is cut short by that.
+pub record Ended (code : List Instruction) (parameter : ℕ → Bool) (words : ℕ) : Type 0 where
+  -- no block is left on the stack of `reachability`, nor on that of `postorder`
+  pub reachability : swept code .pending ≡ []
+  pub postorder : searched code .stack ≡ []
+  -- and none waits when a round of `propagate` ends
+  pub rounds : (d : Direction) → result code parameter words d .ring .queue ≡ []

@@ -8,7 +8,7 @@ use Rattle.dataflow.specs.Paths.{Reached}
 use Rattle.dataflow.specs.Analyses.{initialization, initTransfer, initAlong, liveAlong}
 use Rattle.dataflow.specs.Lists.{range, every, some}
 use Rattle.dataflow.specs.Blocks.{BlockGraph, blockProgram}
-use Rattle.dataflow.specs.Code.{Instruction, instructionAt, program, body}
+use Rattle.dataflow.specs.Code.{Instruction, instructionAt, awaitAt, program, body}
 use Rattle.dataflow.specs.Results.{blockCount, reachable, initEntry, liveExit}
 
 -- ── Over any program, with sets at the points ──
@@ -37,9 +37,6 @@ pub record UnfilledInBlock {P S B : Type 0} (p : Program P S) (g : BlockGraph P 
   pub missing : initAlong p slot (x block slot) front ≡ false
 
 -- ── On code, as tests ──
-
-abbrev pub awaitAt : List Instruction → ℕ → Bool
-awaitAt code i = instructionAt code i .isAwait
 
 module _ (code : List Instruction) (parameter : ℕ → Bool) where
   -- from the front: an input of some instruction of the list is not in the set, which is f before the list

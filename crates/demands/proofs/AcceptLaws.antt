@@ -1,6 +1,6 @@
 -- An acceptance says what demands 2 and 3 ask. Assumes nothing.
 use mathlib.Core.Path.{_≡_, refl, sym, ap, subst, _∙_}
-use mathlib.Core.Bool.{Bool, true, false, _||_}
+use mathlib.Core.Bool.{Bool, true, false, _||_, false≢true}
 use mathlib.Core.List.{List, [], _∷_, _++_, map, List·Memᴰ, List·Memᴰ·not-nil, List·Memᴰ·cases-cons, Memᴰ·map}
 use mathlib.Core.Logic.{_⊎_, inl, inr, _↔_}
 use Prim.Native.Nat.{ℕ, zero, suc, _+_, _*_, _<_}
@@ -13,27 +13,27 @@ use Rattle.dataflow.specs.Program.{Program}
 use Rattle.dataflow.specs.Analyses.{written}
 use Rattle.dataflow.specs.Paths.{Path, Reached}
 use Rattle.dataflow.specs.Demand.{Least, Faulty}
-use Rattle.dataflow.specs.Code.{Instruction, program, successors}
-use Rattle.dataflow.specs.Results.{blockCount}
-use Rattle.dataflow.specs.Verdict.{awaitAt, accepts}
+use Rattle.dataflow.specs.Code.{Instruction, program, successors, awaitAt}
+use Rattle.dataflow.specs.Results.{blockCount, reachable}
+use Rattle.dataflow.specs.Verdict.{accepts}
 use Rattle.dataflow.proofs.Lists.{mem-getD}
 use Rattle.dataflow.proofs.Analyses.{filled-plain}
-use Rattle.dataflow.proofs.Results.{least-below}
+use Rattle.dataflow.proofs.Results.{least-below, reachable-block}
 use Rattle.dataflow.proofs.Verdict.{accepts-iff, accepted-reads}
 use Rattle.memory.specs.Cells.{cell}
 use Rattle.memory.specs.Names.{initializedRow, liveRow}
 use Rattle.answer.specs.Words.{wordsOf}
 use Rattle.answer.proofs.WordLaws.{words-of, wordsOf-means}
-use Rattle.fixed_points.specs.FixedPoints.{Scripted}
-use Rattle.fixed_points.specs.PathSets.{ReachedBlock, FilledThrough, LiveFrom}
+use Rattle.dataflow.specs.Checked.{Scripted}
+use Rattle.dataflow.specs.BlockPaths.{ReachedBlock, FilledThrough, LiveFrom}
 use Rattle.verdict.specs.Points.{Point, points}
 use Rattle.verdict.specs.Ascending.{Ascending}
 use Rattle.verdict.proofs.PointLaws.{points-ascend, point-awaits, point-least, point-clean, awaits-listed}
-use Rattle.outcome.specs.Buffers.{joined, blockSets, awaitWords}
+use Rattle.outcome.specs.Buffers.{joined, reachableMark, blockSets, awaitWords}
 use Rattle.demands.specs.Held.{rowAt, initializedWords, liveWords, awaitInstruction, awaitSet}
 use Rattle.demands.proofs.HeldLaws.{point, initialized-is, live-is, instruction-is, set-is}
 use Rattle.demands.proofs.RowLaws.{allRows, initialized-row, live-row, rows-by-paths}
-use Rattle.dataflow.specs.Lists.{range}
+use Rattle.dataflow.specs.Lists.{flag, range}
 
 -- ---- lists
 
@@ -60,6 +60,11 @@ least-ext p a f g e h = record {
   saves = λ l j x w r. subst (λ (t : Bool). (t || written p l x) ≡ true) (e x) (h .saves l j x w r);
   least = λ y s x q. h .least y s x (e x ∙ q);
 }
+
+-- a mark is 1 exactly if it is set
+flag-one : (t : Bool) → (flag t ≡ 1) ↔ (t ≡ true)
+flag-one true = ((λ e. refl), λ e. refl)
+flag-one false = ((λ e. absurd (omega (arith, e))), λ e. absurd (false≢true e))
 
 -- ---- an accepted script: v is the answer's words, then others
 
@@ -129,10 +134,20 @@ module _ (code : List Instruction) (parameter : ℕ → Bool) (w : ℕ) (h : Scr
       (subst (λ (i : ℕ). Least p i (nth k .live)) (sym (named k lt))
       (point-least code parameter w (h .slots) (h .checked) (h .wide) (nth k) (among k lt)))
 
+  pub awaits-below : (k x : ℕ) → k < length pts → awaitSet v w (blockCount code) k x ≡ true → x < h .slots
+  awaits-below k x lt e = least-below code parameter (h .slots) w (h .checked) (h .wide) (awaitInstruction v w (blockCount code) k)
+      (awaitSet v w (blockCount code) k) (awaits-least k lt) x e
+
   pub awaits-clean : (k x : ℕ) → k < length pts → awaitSet v w (blockCount code) k x ≡ true → host x ≡ false
   awaits-clean k x lt e = point-clean code parameter w (h .slots) (h .checked) (h .wide) host ok (nth k) (among k lt) x (set-members k lt x ∙ e)
 
   -- ---- demand 2
+
+  pub marked-reachable : (c : ℕ) → c < blockCount code → (reachableMark code c ≡ 1) ↔ ReachedBlock code parameter c
+  marked-reachable c lt =
+      let m = flag-one (reachable code c) in
+      let r = reachable-block code parameter (h .slots) w (h .checked) (h .wide) c lt in
+      ((λ e. r .0 (m .0 e)), λ p. m .1 (r .1 p))
 
   first-row : (c : ℕ) → c < blockCount code → cell (allRows code parameter w) (initializedRow c) ≡ initializedWords v w c
   first-row c lt = initialized-row code parameter w c lt ∙ sym (initialized-is code parameter w (blockCount code) pts rest v is c lt)

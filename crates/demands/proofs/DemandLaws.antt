@@ -9,23 +9,24 @@ use native.Mathlib.Omega.{arith}
 use lib.ListN.{length}
 use Rattle.dataflow.specs.Lists.{range}
 use Rattle.dataflow.specs.Demand.{Unfilled, Held}
-use Rattle.dataflow.specs.Checked.{Checked}
+use Rattle.dataflow.specs.Checked.{Checked, Scripted}
 use Rattle.dataflow.specs.Results.{blockCount}
-use Rattle.dataflow.specs.Verdict.{awaitAt, accepts}
+use Rattle.dataflow.specs.Verdict.{accepts}
+use Rattle.dataflow.specs.Code.{awaitAt}
+use Rattle.dataflow.proofs.Results.{runs-ended}
 use Rattle.budget.specs.declared.FlowBudget.{FlowBudget}
 use Rattle.budget.specs.declared.Limits.{Limits}
 use Rattle.format.specs.declared.refusal.Refusal.{Refusal}
 use Rattle.format.specs.declared.refusal.Refusal.the-variants.{NoRoom, StateLimit, WorkLimit, UnfilledSlot, HostOverAwait, FactsLimit}
 use Rattle.sheet.specs.Decode.{refusal, idOf}
-use Rattle.sheet.specs.Checks.{scriptOf, checkedOf, checkedBy}
+use Rattle.sheet.specs.Scripts.{scriptOf, checkedOf, checkedBy}
 use Rattle.instructions.specs.Sound.{Sound}
 use Rattle.instructions.proofs.Sound.{sound}
-use Rattle.fixed_points.specs.FixedPoints.{Scripted}
 use Rattle.verdict.specs.Points.{Checking, stop, on, pointsRun, points}
 use Rattle.verdict.proofs.RunLaws.{passes, unfilled-given, held-given}
 use Rattle.outcome.specs.Outcome.{Lengths, Outcome, accepted, refused, outcomeOf}
 use Rattle.outcome.specs.Buffers.{joined, blockSets, awaitWords, setsAfter}
-use Rattle.outcome.proofs.ScriptedLaws.{scripted, scripted-slots}
+use Rattle.starts.proofs.ScriptedLaws.{scripted, scripted-slots}
 use Rattle.demands.specs.Demands.{Given, IsAccepted, code, host, script, width, FaultyScript, Accepts, Demands}
 use Rattle.demands.specs.Table.{layout, Checks, Due}
 use Rattle.demands.specs.Table.{
@@ -43,14 +44,16 @@ use Rattle.demands.specs.Table.{
   acceptance,
 }
 use Rattle.demands.proofs.TableLaws.{table}
-use Rattle.demands.proofs.SheetNumbers.{sheet-number}
+use Rattle.sheet.proofs.Numbers.{sheet-number}
 use Rattle.demands.proofs.AcceptLaws.{
   not-faulty,
   reads-filled,
   awaits-ascend,
   awaits-are,
   awaits-least,
+  awaits-below,
   awaits-clean,
+  marked-reachable,
   initialized-words,
   live-words,
   unreached-initialized-words,
@@ -133,9 +136,13 @@ module _ (s : List ℕ) (parameter : ℕ → Bool) (l : Limits) (n : Lengths) (b
           ascending = λ j k lt inside. awaits-ascend (code s) parameter (width s) h (host s) ok rest v is j k lt (omega (arith, ea));
           listed = λ i. rw ea (awaits-are (code s) parameter (width s) h (host s) ok rest v is i);
           least = λ k lt. awaits-least (code s) parameter (width s) h (host s) ok rest v is k (omega (arith, ea));
+          slots-below = λ k x lt e.
+              let z = awaits-below (code s) parameter (width s) h (host s) ok rest v is k x (omega (arith, ea)) e in
+              omega (arith, z, sheet-slots s q parameter (below q), sound-script s q .slots-are);
           no-host = λ k x lt. awaits-clean (code s) parameter (width s) h (host s) ok rest v is k x (omega (arith, ea));
           initialized = initialized-words (code s) parameter (width s) h (host s) ok rest v is;
           live = live-words (code s) parameter (width s) h (host s) ok rest v is;
+          reachable = marked-reachable (code s) parameter (width s) h (host s) ok rest v is;
           unreached-initialized = unreached-initialized-words (code s) parameter (width s) h (host s) ok rest v is;
           unreached-live = unreached-live-words (code s) parameter (width s) h (host s) ok rest v is;
           sound = not-faulty (code s) parameter (width s) h (host s) ok rest v is;
@@ -144,11 +151,11 @@ module _ (s : List ℕ) (parameter : ℕ → Bool) (l : Limits) (n : Lengths) (b
     -- ---- 13, 14, and the other refusals
 
     due-unfilled : (id : ℕ) (left : FlowBudget) → Due s parameter l n b (refused UnfilledSlot id left) → Checks s parameter l n b (stop UnfilledSlot left)
-    due-unfilled id left (bad-sheet r e) = let z = sheet-number s UnfilledSlot e in absurd (omega (arith, z))
+    due-unfilled id left (bad-sheet r e) = let z = sheet-number s UnfilledSlot e in absurd (omega (arith, z .1))
     due-unfilled id left (unfilled-slot z g) = g
 
     due-held : (id : ℕ) (left : FlowBudget) → Due s parameter l n b (refused HostOverAwait id left) → Checks s parameter l n b (stop HostOverAwait left)
-    due-held id left (bad-sheet r e) = let z = sheet-number s HostOverAwait e in absurd (omega (arith, z))
+    due-held id left (bad-sheet r e) = let z = sheet-number s HostOverAwait e in absurd (omega (arith, z .1))
     due-held id left (host-over-await z g) = g
 
     checked-sheet : refusal s ≡ none → Checked (code s) parameter (scriptOf s .slots)
@@ -202,6 +209,9 @@ module _ (s : List ℕ) (parameter : ℕ → Bool) (l : Limits) (n : Lengths) (b
         -- what an accepted answer rules out
         pub demands : Demands s parameter o v
         demands = record {
+          ended = λ q.
+              let h : Scripted (code s) parameter (width s) = scripted-sheet s q parameter (below q) in
+              runs-ended (code s) parameter (h .slots) (width s) (h .checked) (h .wide);
           accepts = accepts-here;
           unfilled = λ q. unfilled-path (q .1) (due-unfilled (q .0) (q .1) (subst (Due s parameter l n b) (q .2) is-due));
           held = λ q. held-await (q .1) (due-held (q .0) (q .1) (subst (Due s parameter l n b) (q .2) is-due));

@@ -1,7 +1,6 @@
 -- The laws of what an answer says.
 pub mod TableLaws
 pub mod HeldLaws
-pub mod SheetNumbers
 pub mod RowLaws
 pub mod AcceptLaws
 pub mod DemandLaws

@@ -2,7 +2,7 @@
 use mathlib.Core.Path.{_≡_, refl, ap, _∙_}
 use mathlib.Core.Bool.{Bool}
 use mathlib.Core.List.{List, [], _∷_}
-use Prim.Native.Nat.{ℕ, zero, suc, _+_, _*_, _<_}
+use Prim.Native.Nat.{ℕ, zero, suc, _<_}
 use native.Mathlib.Omega.{arith}
 use lib.ListN.{length, getD}
 use Rattle.bitset.specs.Sets.{Words, member}
@@ -14,10 +14,11 @@ use Rattle.dataflow.proofs.Lists.{range-at, range-length}
 use Rattle.dataflow.proofs.FlowGraph.{live-entry-row}
 use Rattle.memory.specs.Cells.{Mem, cell}
 use Rattle.memory.specs.Names.{initializedRow, liveRow}
-use Rattle.memory.specs.declared.layout.Layout.{Layout}
+use Rattle.sizes.specs.declared.Layout.{Layout}
 use Rattle.answer.specs.Words.{wordsOf}
 use Rattle.answer.proofs.WordLaws.{words-of, wordsOf-means}
-use Rattle.fixed_points.specs.FixedPoints.{Scripted, Sets}
+use Rattle.fixed_points.specs.FixedPoints.{Sets}
+use Rattle.dataflow.specs.Checked.{Scripted}
 use Rattle.fixed_points.specs.PathSets.{PathSets}
 use Rattle.fixed_points.proofs.PathLaws.{path-sets}
 

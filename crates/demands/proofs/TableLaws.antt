@@ -1,7 +1,7 @@
 -- The refusal table: an answer is given exactly if it is due. Assumes nothing.
 use mathlib.Core.Path.{_≡_, refl, sym, ap, subst, _∙_}
 use mathlib.Core.Bool.{Bool, true, false}
-use mathlib.Core.List.{List, _∷_, _++_}
+use mathlib.Core.List.{List}
 use mathlib.Core.Logic.{_⊎_, inl, inr, _↔_}
 use mathlib.Core.Option.{Option, none, some}
 use Prim.Native.Nat.{ℕ, _*_, _≤_, _<_}
@@ -10,7 +10,7 @@ use native.Mathlib.Omega.{arith}
 use borrow.Author.Tests.{le-ltb, lt-ltb}
 use lib.ListN.{length}
 use Rattle.dataflow.specs.Lists.{pick}
-use Rattle.dataflow.specs.Charges.{leaderCharges, operandCharges, reachabilityCharges}
+use Rattle.dataflow.specs.Charges.{fixedPointsCharges, countingCharges, buildingCharges}
 use Rattle.budget.specs.declared.FlowBudget.{FlowBudget}
 use Rattle.budget.specs.declared.Limits.{Limits}
 use Rattle.budget.specs.declared.Charged.{Charged}
@@ -18,16 +18,14 @@ use Rattle.budget.specs.declared.Charged.the-variants.{Ok, Over}
 use Rattle.budget.specs.Budget.{charged, stateBytes}
 use Rattle.format.specs.declared.refusal.Refusal.{Refusal}
 use Rattle.format.specs.declared.refusal.Refusal.the-variants.{NoRoom, StateLimit, WorkLimit, UnfilledSlot, HostOverAwait, FactsLimit}
-use Rattle.rooms.specs.declared.Staged.{Staged}
-use Rattle.rooms.specs.declared.Staged.the-variants as staging
-use Rattle.rooms.specs.Rooms.{roomsOf, ifMet}
-use Rattle.rooms.proofs.RoomLaws.{state-due, room-due, room-there}
+use Rattle.sizes.specs.declared.Staged.{Staged}
+use Rattle.sizes.specs.declared.Staged.the-variants as staging
+use Rattle.sizes.specs.Stages.{roomsOf, ifMet, graphOf, ifOk, stage}
+use Rattle.sizes.proofs.StageLaws.{state-due, room-due, room-there}
 use Rattle.sheet.specs.declared.script.Script.{Script}
 use Rattle.sheet.specs.Decode.{refusal, idIn, idOf, idAfter}
-use Rattle.sheet.specs.Checks.{scriptOf, checkedOf, checkedBy}
+use Rattle.sheet.specs.Scripts.{scriptOf, checkedOf, checkedBy}
 use Rattle.sheet.proofs.Checked.{clean}
-use Rattle.graph.specs.Graph.{graphOf, ifOk, stage}
-use Rattle.fixed_points.specs.FixedPoints.{fixedPointsCharges}
 use Rattle.verdict.specs.Points.{Checking, stop, on, pointsRun, points}
 use Rattle.verdict.proofs.RunLaws.{refusals}
 use Rattle.outcome.specs.Outcome.{Lengths, Outcome, accepted, refused, afterPoints, afterRounds, afterGraph, judged, afterChecks, outcomeOf}
@@ -71,7 +69,7 @@ module _ (s : List ℕ) (parameter : ℕ → Bool) (l : Limits) (n : Lengths) (b
   rooms = roomsOf l (layout s parameter l n b) (n .scratch) (record { sets = n .sets; records = n .records })
 
   abbrev later : List ℕ
-  later = operandCharges (code s) ++ reachabilityCharges (code s)
+  later = buildingCharges (code s)
 
   abbrev rounds : List ℕ
   rounds = fixedPointsCharges (code s) parameter (layout s parameter l n b .words)
@@ -83,7 +81,7 @@ module _ (s : List ℕ) (parameter : ℕ → Bool) (l : Limits) (n : Lengths) (b
   x = scriptOf s
 
   after-begins : Begins s parameter l n b → outcomeOf s parameter l n b
-      ≡ afterGraph s parameter x l (ifOk (ifMet (charged l b (0 ∷ leaderCharges (code s))) rooms) (stage l later))
+      ≡ afterGraph s parameter x l (ifOk (ifMet (charged l b (countingCharges (code s))) rooms) (stage l later))
   unfolding graphOf
   after-begins g = after-passed (g .passed) ∙ pick-no _ _ (le-ltb (n .scratch) (4 * x .count) (g .room))
 
@@ -177,13 +175,13 @@ module _ (s : List ℕ) (parameter : ℕ → Bool) (l : Limits) (n : Lengths) (b
   due-counted left g (yes lt) = (_, state-limit left g lt)
   due-counted left g (no ge) = due-room left g (omega arith) (short s parameter l n b) refl
 
-  due-begun : Begins s parameter l n b → (c : Charged) → charged l b (0 ∷ leaderCharges (code s)) ≡ c → SomeDue
+  due-begun : Begins s parameter l n b → (c : Charged) → charged l b (countingCharges (code s)) ≡ c → SomeDue
   due-begun g (Over over) e = (_, work-counting over g e)
   due-begun g (Ok left) e = due-counted left (record { begins = g; paid = e }) (decLt _ _)
 
   due-passed : refusal s ≡ none → Dec (n .scratch < 4 * layout s parameter l n b .instructions) → SomeDue
   due-passed e (yes lt) = (_, no-room-early e lt)
-  due-passed e (no ge) = due-begun (record { passed = e; room = omega arith }) (charged l b (0 ∷ leaderCharges (code s))) refl
+  due-passed e (no ge) = due-begun (record { passed = e; room = omega arith }) (charged l b (countingCharges (code s))) refl
 
   some-due : (f : Option Refusal) → refusal s ≡ f → SomeDue
   some-due (some r) e = (_, bad-sheet r e)

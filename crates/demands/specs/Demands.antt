@@ -11,16 +11,16 @@ use Rattle.dataflow.specs.Analyses.{written}
 use Rattle.dataflow.specs.Program.{Program}
 use Rattle.dataflow.specs.Paths.{Path, Reached}
 use Rattle.dataflow.specs.Demand.{Unfilled, Least, Held, Faulty}
-use Rattle.dataflow.specs.Code.{Instruction, program, successors}
-use Rattle.dataflow.specs.Results.{blockCount}
-use Rattle.dataflow.specs.Verdict.{awaitAt}
+use Rattle.dataflow.specs.Code.{Instruction, program, successors, awaitAt}
+use Rattle.dataflow.specs.Results.{blockCount, Ended}
 use Rattle.budget.specs.declared.FlowBudget.{FlowBudget}
 use Rattle.format.specs.declared.refusal.Refusal.{Refusal}
 use Rattle.format.specs.declared.refusal.Refusal.the-variants.{NoRoom, StateLimit, WorkLimit, UnfilledSlot, HostOverAwait, FactsLimit}
 use Rattle.sheet.specs.Decode.{partsOf, refusal, idOf}
 use Rattle.script.specs.Script.{flowCode, hostIn}
-use Rattle.fixed_points.specs.PathSets.{ReachedBlock, FilledThrough, LiveFrom}
+use Rattle.dataflow.specs.BlockPaths.{ReachedBlock, FilledThrough, LiveFrom}
 use Rattle.outcome.specs.Outcome.{Outcome, accepted, refused}
+use Rattle.outcome.specs.Buffers.{reachableMark}
 use Rattle.demands.specs.Held.{initializedWords, liveWords, awaitInstruction, awaitSet}
 
 -- an answer refuses with r
@@ -66,6 +66,8 @@ pub record Accepts (s : List ℕ) (parameter : ℕ → Bool) (id blocks awaits :
   pub listed : (i : ℕ) → ((k : ℕ) × (k < awaits) × (awaitInstruction v (width s) blocks k ≡ i)) ↔ ((awaitAt (code s) i ≡ true) × Reached (script s parameter) i)
   -- its set is "the least with which every path beginning at that await reads only slots saved or written since"
   pub least : (k : ℕ) → k < awaits → Least (script s parameter) (awaitInstruction v (width s) blocks k) (awaitSet v (width s) blocks k)
+  -- "A set is of slots below the slot count"
+  pub slots-below : (k x : ℕ) → k < awaits → awaitSet v (width s) blocks k x ≡ true → x < partsOf s .slots
   -- and "holds no host handle"
   pub no-host : (k x : ℕ) → k < awaits → awaitSet v (width s) blocks k x ≡ true → host s x ≡ false
   -- demand 2: for each block that a path reaches, what every path from 0 through its last instruction has filled
@@ -74,6 +76,8 @@ pub record Accepts (s : List ℕ) (parameter : ℕ → Bool) (id blocks awaits :
   -- and what some path from its first instruction reads before writing
   pub live : (c : ℕ) → c < blocks → ReachedBlock (code s) parameter c → (x : ℕ)
       → (member (liveWords v (width s) c) x ≡ true) ↔ LiveFrom (code s) parameter c x
+  -- the `reachable` of its block record is 1 exactly if a path reaches the block
+  pub reachable : (c : ℕ) → c < blocks → (reachableMark (code s) c ≡ 1) ↔ ReachedBlock (code s) parameter c
   -- for each other block all ones and zero (case i)
   pub unreached-initialized : (c : ℕ) → c < blocks → (ReachedBlock (code s) parameter c → ⊥) → initializedWords v (width s) c ≡ replicate (width s) ones
   pub unreached-live : (c : ℕ) → c < blocks → (ReachedBlock (code s) parameter c → ⊥) → liveWords v (width s) c ≡ replicate (width s) 0
@@ -82,6 +86,8 @@ pub record Accepts (s : List ℕ) (parameter : ℕ → Bool) (id blocks awaits :
 
 -- What the answer o says.
 pub record Demands (s : List ℕ) (parameter : ℕ → Bool) (o : Outcome) (v : List ℕ) : Type 0 where
+  -- of a sheet that passes the checks: the runs that define sets and work end by themselves, so what bounds their turns decides nothing
+  pub ended : refusal s ≡ none → Ended (code s) parameter (width s)
   pub accepts : (id blocks awaits : ℕ) (b : FlowBudget) → o ≡ accepted id blocks awaits b → Accepts s parameter id blocks awaits v
   -- 13 comes with a path that reads an unfilled slot, 14 with a reached await whose least set holds a handle
   pub unfilled : Given UnfilledSlot o → Unfilled (script s parameter)

@@ -3,11 +3,11 @@
 -- it is due.
 use mathlib.Core.Path.{_≡_}
 use mathlib.Core.Bool.{Bool, true, false}
-use mathlib.Core.List.{List, _∷_, _++_}
+use mathlib.Core.List.{List}
 use mathlib.Core.Option.{none, some}
 use Prim.Native.Nat.{ℕ, _*_, _≤_, _<_}
 use lib.ListN.{length}
-use Rattle.dataflow.specs.Charges.{leaderCharges, operandCharges, reachabilityCharges}
+use Rattle.dataflow.specs.Charges.{countingCharges, buildingCharges, fixedPointsCharges}
 use Rattle.dataflow.specs.Results.{blockCount}
 use Rattle.budget.specs.declared.FlowBudget.{FlowBudget}
 use Rattle.budget.specs.declared.Limits.{Limits}
@@ -15,11 +15,10 @@ use Rattle.budget.specs.declared.Charged.the-variants.{Ok, Over}
 use Rattle.budget.specs.Budget.{charged, stateBytes}
 use Rattle.format.specs.declared.refusal.Refusal.{Refusal}
 use Rattle.format.specs.declared.refusal.Refusal.the-variants.{NoRoom, StateLimit, WorkLimit, UnfilledSlot, HostOverAwait, FactsLimit}
-use Rattle.memory.specs.declared.layout.Layout.{Layout}
-use Rattle.rooms.specs.Rooms.{layoutOf, shortOf}
+use Rattle.sizes.specs.declared.Layout.{Layout}
+use Rattle.sizes.specs.Sizes.{layoutOf, shortOf}
 use Rattle.sheet.specs.Decode.{refusal, idOf}
-use Rattle.sheet.specs.Checks.{scriptOf}
-use Rattle.fixed_points.specs.FixedPoints.{fixedPointsCharges}
+use Rattle.sheet.specs.Scripts.{scriptOf}
 use Rattle.verdict.specs.Points.{Checking, stop, on, pointsRun, points}
 use Rattle.outcome.specs.Outcome.{Lengths, Outcome, accepted, refused}
 use Rattle.demands.specs.Demands.{code, host}
@@ -40,7 +39,7 @@ module _ (s : List ℕ) (parameter : ℕ → Bool) (l : Limits) (n : Lengths) (b
   -- then `graph` charges for its first loop, and this budget is left
   pub record Counts (left : FlowBudget) : Type 0 where
     pub begins : Begins
-    pub paid : charged l b (0 ∷ leaderCharges (code s)) ≡ Ok left
+    pub paid : charged l b (countingCharges (code s)) ≡ Ok left
 
   -- then neither 11 nor the later 10 is due: "other lack of room is 10 right after 11"
   pub record Fits (left : FlowBudget) : Type 0 where
@@ -52,7 +51,7 @@ module _ (s : List ℕ) (parameter : ℕ → Bool) (l : Limits) (n : Lengths) (b
   pub record Builds (left : FlowBudget) : Type 0 where
     pub before : FlowBudget
     pub fits : Fits before
-    pub paid : charged l before (operandCharges (code s) ++ reachabilityCharges (code s)) ≡ Ok left
+    pub paid : charged l before (buildingCharges (code s)) ≡ Ok left
 
   -- then `fixed_points`
   pub record Solves (left : FlowBudget) : Type 0 where
@@ -77,8 +76,8 @@ module _ (s : List ℕ) (parameter : ℕ → Bool) (l : Limits) (n : Lengths) (b
     -- 11
     state-limit : (left : FlowBudget) → Counts left → l .state < stateBytes (layout .blocks) (layout .words) → Due (refused StateLimit (idOf s) left)
     -- 12: in the first loop of `graph`, in its rest or `reachability`, in `fixed_points`, in `check_points`
-    work-counting : (over : FlowBudget) → Begins → charged l b (0 ∷ leaderCharges (code s)) ≡ Over over → Due (refused WorkLimit (idOf s) over)
-    work-building : (before over : FlowBudget) → Fits before → charged l before (operandCharges (code s) ++ reachabilityCharges (code s)) ≡ Over over
+    work-counting : (over : FlowBudget) → Begins → charged l b (countingCharges (code s)) ≡ Over over → Due (refused WorkLimit (idOf s) over)
+    work-building : (before over : FlowBudget) → Fits before → charged l before (buildingCharges (code s)) ≡ Over over
         → Due (refused WorkLimit (idOf s) over)
     work-solving : (before over : FlowBudget) → Builds before
         → charged l before (fixedPointsCharges (code s) parameter (layout .words)) ≡ Over over → Due (refused WorkLimit (idOf s) over)

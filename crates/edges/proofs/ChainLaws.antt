@@ -18,7 +18,7 @@ use Rattle.memory.specs.Names.{firstEdgeCell, nextEdgeCell, predecessorCountCel
 use Rattle.memory.specs.Scratch.{edgeWords, scratchWidths}
 use Rattle.memory.specs.Edges.{successorAt, edgeFrom, sourceOf, placeOf, storeNext, chainFrom, edgesInto}
 use Rattle.memory.specs.Frame.{Only, NoRow}
-use Rattle.memory.specs.declared.layout.Layout.{Layout}
+use Rattle.sizes.specs.declared.Layout.{Layout}
 use Rattle.memory.proofs.CellLaws.{Sized, sized-store, word-store-other, same-word}
 use Rattle.memory.proofs.ScratchLaws.{word-put, place-blocks, place-links}
 use Rattle.memory.proofs.EdgeLaws.{source-from, place-from}

@@ -6,12 +6,12 @@ use Prim.Native.Nat.{ℕ, zero, suc, _*_, _≤_, _<_}
 use native.Mathlib.Omega.{arith}
 use native.Mathlib.Decide.{ℕ-discrete}
 use lib.ListN.{length, getD, set, replicate, getD-replicate}
-use Rattle.dataflow.specs.Lists.{elem, every}
+use Rattle.dataflow.specs.Lists.{elem, every, flag}
 use Rattle.memory.specs.Cells.{Mem, cell, word, store, storeCell}
 use Rattle.memory.specs.Frame.{spared, Only, NoRow}
-use Rattle.memory.specs.Names.{firstRow, flag, successorCell, successorCountCell}
+use Rattle.memory.specs.Names.{firstRow, successorCell, successorCountCell}
 use Rattle.memory.specs.Scratch.{scratchWidths, BlockCell}
-use Rattle.memory.specs.declared.layout.Layout.{Layout}
+use Rattle.sizes.specs.declared.Layout.{Layout}
 use Rattle.memory.specs.Edges.{successorAt}
 use Rattle.memory.proofs.EdgeLaws.{successor-kept}
 use Rattle.memory.proofs.CellLaws.{Sized, same-word, word-cell-same}

@@ -15,7 +15,7 @@ use Rattle.memory.specs.Frame.{spared, Only}
 use Rattle.memory.specs.Names.{reachableCell, successorCountCell, firstEdgeCell, predecessorCountCell, successorCell, nextEdgeCell}
 use Rattle.memory.specs.Names.{orderCell, ringCell, queuedCell, stackBlockCell, stackEdgeCell, visitedCell}
 use Rattle.memory.specs.Names.{firstRow, usesRow, definesRow, stateRow, parametersRow}
-use Rattle.memory.specs.declared.layout.Layout.{Layout}
+use Rattle.sizes.specs.declared.Layout.{Layout}
 use Rattle.memory.proofs.CellLaws.{same-word}
 use Rattle.memory.proofs.FrameLaws.{only-more}
 use Rattle.edges.specs.Flow.{Flows}

@@ -13,9 +13,10 @@ use Rattle.dataflow.proofs.Lists.{getD-same}
 use Rattle.dataflow.proofs.Reachability.{unvisited-set, unvisited-all}
 use Rattle.memory.specs.Cells.{Mem, word, store}
 use Rattle.memory.specs.Frame.{Only, NoRow}
-use Rattle.memory.specs.Names.{flag, reachableCell, stackBlockCell}
+use Rattle.memory.specs.Names.{reachableCell, stackBlockCell}
+use Rattle.dataflow.specs.Lists.{flag}
 use Rattle.memory.specs.Scratch.{scratchWidths}
-use Rattle.memory.specs.declared.layout.Layout.{Layout}
+use Rattle.sizes.specs.declared.Layout.{Layout}
 use Rattle.memory.proofs.CellLaws.{Sized, sized-store, word-store-other}
 use Rattle.memory.proofs.ScratchLaws.{word-put, place-blocks}
 use Rattle.memory.proofs.FrameLaws.{only-then}

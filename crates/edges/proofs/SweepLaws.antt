@@ -7,13 +7,13 @@ use native.Mathlib.Numerals.{add-one}
 use native.Mathlib.Omega.{arith}
 use lib.ListN.{length, getD, drop, replicate, drop-of-length-le}
 use lib.Seq.{drop-cons}
-use Rattle.dataflow.specs.Lists.{sum}
+use Rattle.dataflow.specs.Lists.{sum, flag}
 use Rattle.dataflow.specs.Search.{Sweep, add, addAll, onNext, takeTop, sweep, sweepFrom}
 use Rattle.dataflow.proofs.Reachability.{add-taken}
 use Rattle.memory.specs.Cells.{Mem, word}
-use Rattle.memory.specs.Names.{flag, reachableCell, stackBlockCell, successorCountCell}
+use Rattle.memory.specs.Names.{reachableCell, stackBlockCell, successorCountCell}
 use Rattle.memory.specs.Edges.{successorAt}
-use Rattle.memory.specs.declared.layout.Layout.{Layout}
+use Rattle.sizes.specs.declared.Layout.{Layout}
 use Rattle.budget.specs.declared.FlowBudget.{FlowBudget}
 use Rattle.budget.specs.declared.Limits.{Limits}
 use Rattle.budget.specs.declared.Charged.{Charged}

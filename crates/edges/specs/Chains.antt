@@ -6,7 +6,7 @@ use Rattle.dataflow.specs.Lists.{tabulate}
 use Rattle.dataflow.specs.Results.{predecessorsFrom}
 use Rattle.memory.specs.Cells.{Mem, word, store}
 use Rattle.memory.specs.Names.{firstEdgeCell, predecessorCountCell}
-use Rattle.memory.specs.declared.layout.Layout.{Layout}
+use Rattle.sizes.specs.declared.Layout.{Layout}
 use Rattle.memory.specs.Edges.{sourceOf, placeOf, storeNext, edgesInto}
 use Rattle.memory.specs.Frame.{Only, NoRow}
 use Rattle.memory.specs.Scratch.{edgeWords}

@@ -9,7 +9,7 @@ use Rattle.memory.specs.Names.{successorCountCell}
 use Rattle.memory.specs.Edges.{successorAt}
 use Rattle.memory.specs.Frame.{Only, NoRow}
 use Rattle.memory.specs.Scratch.{edgeWords}
-use Rattle.memory.specs.declared.layout.Layout.{Layout}
+use Rattle.sizes.specs.declared.Layout.{Layout}
 
 -- a word as a truth value: a mark where it is not 0
 abbrev pub marked : ℕ → Bool

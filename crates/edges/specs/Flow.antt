@@ -5,12 +5,13 @@ use mathlib.Core.List.{List}
 use Prim.Native.Nat.{ℕ, _<_}
 use lib.ListN.{replicate}
 use Rattle.bitset.specs.Sets.{member, ones}
-use Rattle.dataflow.specs.Blocks.{uses, defines}
+use Rattle.dataflow.specs.BasicBlocks.{uses, defines}
 use Rattle.dataflow.specs.Code.{Instruction, program, body, blockSuccessors}
 use Rattle.dataflow.specs.Results.{blockCount, reachable}
 use Rattle.memory.specs.Cells.{Mem, cell, word}
-use Rattle.memory.specs.Names.{reachableCell, flag, usesRow, definesRow, parametersRow, initializedRow, liveRow}
-use Rattle.memory.specs.declared.layout.Layout.{Layout}
+use Rattle.memory.specs.Names.{reachableCell, usesRow, definesRow, parametersRow, initializedRow, liveRow}
+use Rattle.dataflow.specs.Lists.{flag}
+use Rattle.sizes.specs.declared.Layout.{Layout}
 use Rattle.edges.specs.Edges.{Holds}
 use Rattle.edges.specs.Predecessors.{Chained}
 

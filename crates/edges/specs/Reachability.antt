@@ -4,12 +4,12 @@ use mathlib.Core.Bool.{false}
 use mathlib.Core.List.{List, [], _∷_, map}
 use Prim.Native.Nat.{ℕ, _<_}
 use lib.ListN.{length, getD, replicate}
-use Rattle.dataflow.specs.Lists.{sum}
+use Rattle.dataflow.specs.Lists.{sum, flag}
 use Rattle.dataflow.specs.Search.{Sweep, sweep, sweepFrom}
 use Rattle.memory.specs.Cells.{Mem, word}
 use Rattle.memory.specs.Frame.{Only, NoRow}
-use Rattle.memory.specs.Names.{flag, reachableCell, stackBlockCell}
-use Rattle.memory.specs.declared.layout.Layout.{Layout}
+use Rattle.memory.specs.Names.{reachableCell, stackBlockCell}
+use Rattle.sizes.specs.declared.Layout.{Layout}
 use Rattle.budget.specs.declared.FlowBudget.{FlowBudget}
 use Rattle.budget.specs.declared.Limits.{Limits}
 use Rattle.budget.specs.declared.Charged.{Charged}

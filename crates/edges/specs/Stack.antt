@@ -7,8 +7,9 @@ use lib.ListN.{length, getD, replicate}
 use Rattle.dataflow.specs.Search.{Sweep, unvisited, add, addAll, sweepFrom}
 use Rattle.memory.specs.Cells.{Mem, word}
 use Rattle.memory.specs.Frame.{Only, NoRow}
-use Rattle.memory.specs.Names.{flag, reachableCell, stackBlockCell}
-use Rattle.memory.specs.declared.layout.Layout.{Layout}
+use Rattle.memory.specs.Names.{reachableCell, stackBlockCell}
+use Rattle.dataflow.specs.Lists.{flag}
+use Rattle.sizes.specs.declared.Layout.{Layout}
 use Rattle.budget.specs.declared.FlowBudget.{FlowBudget}
 use Rattle.budget.specs.declared.Limits.{Limits}
 use Rattle.budget.specs.declared.Charged.{Charged}

@@ -3,7 +3,7 @@
 use crate::words;
 use memory::edges;
 use memory::layout;
-use memory::layout::Layout;
+use sizes::Layout;
 ghost use mathlib.Core.Path.{_≡_};
 ghost use Prim.Native.Nat.{_<_};
 ghost use lib.ListN.{length};
@@ -21,7 +21,7 @@ pub fn predecessors(s: &mut [u64], y: Layout)
 {
     clear_counts(s, y);
     let mut left = y.blocks;
-    let mut low = y.edge_words();
+    let mut low = layout::edge_words(y);
     while 0 < left {
         left -= 1;
         low = chain_successors(s, y, left, low);

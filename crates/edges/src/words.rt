@@ -1,5 +1,5 @@
 // A cell of a word a block, as a whole.
-use memory::layout::Layout;
+use sizes::Layout;
 ghost use lib.ListN.{length};
 ghost use Rattle.memory.specs.Scratch.{scratch, Room, BlockCell};
 ghost use Rattle.edges.specs.Edges.{Cleared};

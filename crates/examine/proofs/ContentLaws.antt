@@ -15,7 +15,7 @@ use Rattle.dataflow.specs.Results.{initExit, liveEntry, flowGraph, seed}
 use Rattle.dataflow.proofs.FlowGraph.{live-entry-row}
 use Rattle.memory.specs.Cells.{Mem, cells, total, cell}
 use Rattle.memory.specs.Names.{initializedRow, liveRow, awaitEntry}
-use Rattle.memory.specs.declared.layout.Layout.{Layout}
+use Rattle.sizes.specs.declared.Layout.{Layout}
 use Rattle.memory.specs.Sets.{setsWidths, sets, SetsRoom, SetsRow}
 use Rattle.memory.proofs.CellLaws.{start, start-past, start-equal}
 use Rattle.memory.proofs.SetsLaws.{sets-length, sets-row-words, await-words}
@@ -26,7 +26,7 @@ use Rattle.answer.specs.Words.{wordsOf}
 use Rattle.answer.proofs.WordLaws.{means-words}
 use Rattle.outcome.specs.Buffers.{joined, blockSets, awaitWords}
 use Rattle.outcome.proofs.JoinedLaws.{joined-append}
-use Rattle.examine.specs.Stages.{answerWords}
+use Rattle.sizes.specs.Sizes.{answerWords}
 
 -- ---- cells, one after the other
 

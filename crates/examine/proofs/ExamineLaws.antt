@@ -2,20 +2,21 @@
 use mathlib.Core.Path.{_≡_, refl, sym, ap, ap₂, subst, _∙_}
 use mathlib.Core.Bool.{Bool}
 use mathlib.Core.List.{List, _++_}
-use Prim.Native.Nat.{ℕ, _+_, _*_, _-_, _/_, _^_, _≤_, _<_}
-use native.Mathlib.Nat.{mul-le-mul, mul-le-mul-right}
+use Prim.Native.Nat.{ℕ, _+_, _-_, _/_, _^_, _≤_, _<_}
+use native.Mathlib.Nat.{mul-le-mul-right}
 use native.Mathlib.Omega.{arith}
 use lib.ListN.{length, getD, take, replicate}
 use lib.Seq.{length-take-le}
 use Rattle.budget.specs.declared.FlowBudget.{FlowBudget}
 use Rattle.budget.specs.declared.Limits.{Limits}
 use Rattle.format.specs.declared.refusal.Refusal.{Refusal}
-use Rattle.memory.specs.declared.layout.Layout.{Layout}
+use Rattle.sizes.specs.declared.Layout.{Layout}
 use Rattle.sheet.specs.declared.script.Script.{Script}
 use Rattle.sheet.specs.declared.script.Checked.{Checked}
 use Rattle.sheet.specs.declared.script.Checked.the-variants as checking
 use Rattle.sheet.specs.Decode.{partsOf}
-use Rattle.sheet.specs.Checks.{scriptOf, Checks}
+use Rattle.sheet.specs.Checks.{Checks}
+use Rattle.sheet.specs.Scripts.{scriptOf}
 use Rattle.sheet.proofs.Checked.{passed}
 use Rattle.script.specs.Script.{flowCode}
 use Rattle.instructions.specs.Sound.{Sound}
@@ -31,21 +32,12 @@ use Rattle.judge.specs.Judge.{outcomeWith, AcceptedWords, Judges}
 use Rattle.examine.specs.declared.Examined.{Examined}
 use Rattle.examine.specs.declared.Examined.the-variants.{Accepted, Refused}
 use Rattle.examine.specs.Examine.{outcomeIn, Listing, Examines}
-use Rattle.examine.specs.Stages.{zeros, cutAt, answerWords, examinedBy, Acceptable, Finishing, Finishes}
+use Rattle.examine.specs.Stages.{zeros, cutAt, examinedBy, Acceptable, Finishing, Finishes}
+use Rattle.sizes.specs.Sizes.{answerWords}
 use Rattle.examine.proofs.ContentLaws.{content}
 use Rattle.examine.proofs.ListingLaws.{listing}
 
 -- ---- `accept`
-
--- its numbers fit
-pub answer-small : (y : Layout) (awaits : ℕ) (v : List ℕ) → Acceptable y awaits v → answerWords y awaits < 2 ^ 64
-answer-small y awaits v h =
-    let words : 1 + y .words ≤ 1025 = omega (arith, h .room .words) in
-    let few : awaits ≤ 65536 = omega (arith, h .few, h .room .awaits) in
-    omega (arith, mul-le-mul few words, mul-le-mul (h .room .blocks) (h .room .words))
-
-pub entries-small : (y : Layout) (awaits : ℕ) (v : List ℕ) → Acceptable y awaits v → awaits * (1 + y .words) < 2 ^ 64
-entries-small y awaits v h = omega (arith, answer-small y awaits v h)
 
 -- the words of the answer are there
 pub answer-inside : (y : Layout) (awaits : ℕ) (v : List ℕ) → Acceptable y awaits v → answerWords y awaits ≤ length v

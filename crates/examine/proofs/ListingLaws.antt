@@ -9,11 +9,12 @@ use lib.ListN.{length, getD, List·getD-eq-default}
 use Rattle.dataflow.specs.Code.{Instruction, blockSuccessors}
 use Rattle.dataflow.specs.Results.{reachable}
 use Rattle.memory.specs.Cells.{Mem, word}
-use Rattle.memory.specs.Names.{reachableCell, flag}
+use Rattle.memory.specs.Names.{reachableCell}
+use Rattle.dataflow.specs.Lists.{flag}
 use Rattle.memory.specs.Edges.{edgeWord}
-use Rattle.memory.specs.declared.layout.Layout.{Layout}
+use Rattle.sizes.specs.declared.Layout.{Layout}
 use Rattle.sheet.specs.declared.script.Script.{Script}
-use Rattle.rooms.specs.declared.Lent.{Lent}
+use Rattle.sizes.specs.declared.Lent.{Lent}
 use Rattle.blocks.specs.Blocks.{BlockWords}
 use Rattle.judge.specs.Judge.{AcceptedWords}
 use Rattle.outcome.specs.Buffers.{blockRecord}

@@ -1,11 +1,12 @@
 -- How `examine` ends: the answer of the judging with the function's id, and the sets buffer as it is left.
 use mathlib.Core.Path.{_≡_}
 use mathlib.Core.List.{List, _++_}
-use Prim.Native.Nat.{ℕ, _+_, _*_, _-_, _≤_}
+use Prim.Native.Nat.{ℕ, _-_, _≤_}
 use lib.ListN.{length, take, replicate}
 use Rattle.budget.specs.declared.FlowBudget.{FlowBudget}
 use Rattle.format.specs.declared.refusal.Refusal.{Refusal}
-use Rattle.memory.specs.declared.layout.Layout.{Layout}
+use Rattle.sizes.specs.declared.Layout.{Layout}
+use Rattle.sizes.specs.Sizes.{answerWords}
 use Rattle.memory.specs.Sets.{SetsRoom}
 use Rattle.sheet.specs.declared.script.Script.{Script}
 use Rattle.sheet.specs.declared.script.Checked.the-variants as checking
@@ -26,10 +27,6 @@ zeros l = replicate (length l) 0
 -- the first n words, then zeros
 abbrev pub cutAt : ℕ → List ℕ → List ℕ
 cutAt n l = take n l ++ replicate (length l - n) 0
-
--- how many words of the sets buffer the answer takes
-abbrev pub answerWords : Layout → ℕ → ℕ
-answerWords y awaits = y .blocks * 2 * y .words + awaits * (1 + y .words)
 
 -- an answer of the judging, with the function's id
 abbrev pub examinedBy : ℕ → Judged → Examined

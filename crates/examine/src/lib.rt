@@ -5,15 +5,16 @@ use budget::FlowBudget;
 use budget::Limits;
 use format::refusal::Refusal;
 use judge::Judged;
-use memory::layout::Layout;
 use sheet::script::Checked;
 use sheet::script::Script;
+use sizes::Layout;
 ghost use mathlib.Core.Path.{_≡_};
 ghost use Rattle.budget.specs.Budget.{counted};
 ghost use Rattle.sheet.specs.Decode.{partsOf};
 ghost use Rattle.starts.specs.Starts.{parameterWith};
 ghost use Rattle.examine.specs.Examine.{Examines};
-ghost use Rattle.examine.specs.Stages.{PassedAs, zeros, cutAt, answerWords, Acceptable, Finishing, Finishes};
+ghost use Rattle.examine.specs.Stages.{PassedAs, zeros, cutAt, Acceptable, Finishing, Finishes};
+ghost use Rattle.sizes.specs.Sizes.{answerWords};
 
 // Accepted with the function's id, the layout of scratch, how many awaits are reached, and the budget; or refused with the id and the budget.
 pub enum Examined {
@@ -76,7 +77,7 @@ fn accept(t: &mut [u64], id: u32, y: Layout, awaits: usize, left: FlowBudget) ->
     requires { ⌜ Acceptable y awaits (now t) ⌝ }
     ensures { λ r. ⌜ (r ≡ Examined.Accepted id y awaits left) × (now (t .exit) ≡ cutAt (answerWords y awaits) (now (t .entry))) ⌝ }
 {
-    clear::clear_from(t, y.blocks * 2 * y.words + awaits * (1 + y.words));
+    clear::clear_from(t, y.answer_words(awaits));
     Examined::Accepted(id, y, awaits, left)
 }
 

@@ -1,8 +1,7 @@
 -- Rows of words seen as lists of bits: what a visit computes of the rows is, seen so, what it computes of the bits. Assumes nothing.
 use mathlib.Core.Path.{_≡_, refl, sym, ap, ap₂, _∙_}
 use mathlib.Core.Bool.{Bool, true, false, not, _&&_, _||_, true≢false, and-assoc, or-assoc, and-comm, or-comm, and-true, or-false}
-use mathlib.Core.List.{List, [], _∷_, map, List·Memᴰ, List·Memᴰ·not-nil, List·Memᴰ·cases-cons}
-use mathlib.Core.Logic.{_⊎_, inl, inr}
+use mathlib.Core.List.{List, [], _∷_, map}
 use Prim.Native.Nat.{ℕ, _*_, _/_, _<_}
 use native.Mathlib.Omega.{arith}
 use native.Mathlib.Decide.{ℕ-discrete}
@@ -10,12 +9,13 @@ use native.Mathlib.Nat.{zero-add}
 use lib.Dec.{eqb, lit<}
 use lib.ListN.{length, getD, set, replicate, length-set}
 use lib.Seq.{getD-set-same, getD-set-other}
-use Rattle.bitset.specs.Sets.{ones, member, meet, difference, same, Words}
+use Rattle.bitset.specs.Sets.{ones, member, Words}
+use Rattle.bitset.specs.Operations.{meet, difference, same}
 use Rattle.bitset.proofs.SetLaws.{member-meet, member-join, member-difference, member-zero, member-ones, same-members, words-meet, words-join}
 use Rattle.bitset.proofs.SetLaws.{words-difference, words-replicate}
 use Rattle.dataflow.specs.Analyses as analyses
 use Rattle.dataflow.specs.Code.{Instruction, program, body}
-use Rattle.dataflow.specs.Lists.{pick, tabulate, every, some}
+use Rattle.dataflow.specs.Lists.{pick, tabulate, every, some, flag}
 use Rattle.dataflow.specs.Framework.{Framework, bitAt, sameBits, solverOf}
 use Rattle.dataflow.specs.FlowGraph.{framework}
 use Rattle.dataflow.specs.Results.{reachable, flowGraph}
@@ -24,9 +24,9 @@ use Rattle.dataflow.proofs.Blocks.{init-gen-kill, init-by-defines, uses-exposed
 use Rattle.dataflow.proofs.Lists.{getD-tabulate, tabulate-among, map-at}
 use Rattle.dataflow.proofs.Simulation.{Agrees, Each}
 use Rattle.memory.specs.Cells.{Mem, cell, word}
-use Rattle.memory.specs.Names.{flag, reachableCell, usesRow, definesRow, parametersRow}
+use Rattle.memory.specs.Names.{reachableCell, usesRow, definesRow, parametersRow}
 use Rattle.memory.specs.Scratch.{scratchWidths, Row}
-use Rattle.memory.specs.declared.layout.Layout.{Layout}
+use Rattle.sizes.specs.declared.Layout.{Layout}
 use Rattle.memory.proofs.CellLaws.{Sized}
 use Rattle.edges.specs.Edges.{marked}
 use Rattle.bitset.specs.Below.{AllBelow}
@@ -38,7 +38,7 @@ use Rattle.transfer.specs.Directions.{readsOf, dependentsOf}
 use Rattle.transfer.specs.Transfer.{entryOf, transferred}
 use Rattle.propagate.specs.Rounds.{gatherRow, gatherRows, rowSolver}
 use Rattle.edges.specs.Flow.{Flows}
-use Rattle.fixed_points.specs.FixedPoints.{Scripted}
+use Rattle.dataflow.specs.Checked.{Scripted}
 use Rattle.fixed_points.proofs.CodeGraph.{directionOf, neighbors-are, reachable-are, connected}
 
 -- ---- bits of words

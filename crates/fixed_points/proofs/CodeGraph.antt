@@ -14,7 +14,7 @@ use Rattle.dataflow.proofs.Results.{live-sound-graph, seed-sound}
 use Rattle.memory.specs.Cells.{Mem, cell, word}
 use Rattle.memory.specs.Names.{startCell, reachableCell, successorCountCell, predecessorCountCell, successorCell}
 use Rattle.memory.specs.Scratch.{scratchWidths}
-use Rattle.memory.specs.declared.layout.Layout.{Layout}
+use Rattle.sizes.specs.declared.Layout.{Layout}
 use Rattle.memory.proofs.CellLaws.{Sized}
 use Rattle.memory.proofs.ScratchLaws.{sized-blocks}
 use Rattle.edges.specs.Edges.{marked}
@@ -28,7 +28,7 @@ use Rattle.memory.proofs.EdgeLaws.{neighbors-none}
 use Rattle.propagate.proofs.Graphs as graphs
 use Rattle.edges.specs.Flow.{Flows}
 use Rattle.edges.proofs.EdgeLaws.{marked-flag, flag-few}
-use Rattle.fixed_points.specs.FixedPoints.{Scripted}
+use Rattle.dataflow.specs.Checked.{Scripted}
 
 -- a direction of the solver as one of the analyses
 abbrev pub directionOf : Direction → analyses.Direction

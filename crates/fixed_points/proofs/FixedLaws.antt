@@ -8,7 +8,7 @@ use lib.ListN.{length, getD, take}
 use Rattle.bitset.specs.Sets.{member}
 use Rattle.dataflow.specs.Analyses.{initialization, liveness}
 use Rattle.dataflow.specs.Code.{Instruction, blockSuccessors}
-use Rattle.dataflow.specs.Charges.{postorderCharges, propagateCharges}
+use Rattle.dataflow.specs.Charges.{postorderCharges, propagateCharges, roundsCharges}
 use Rattle.budget.specs.declared.FlowBudget.{FlowBudget}
 use Rattle.budget.specs.declared.Limits.{Limits}
 use Rattle.budget.specs.declared.Charged.{Charged}
@@ -18,7 +18,7 @@ use Rattle.budget.proofs.BudgetLaws.{met-then, over-then, over-not-ok}
 use Rattle.memory.specs.Cells.{Mem, cell}
 use Rattle.memory.specs.Names.{orderCell, parametersRow, initializedRow, liveRow}
 use Rattle.memory.specs.Scratch.{scratchWidths, scratch, Room}
-use Rattle.memory.specs.declared.layout.Layout.{Layout}
+use Rattle.sizes.specs.declared.Layout.{Layout}
 use Rattle.memory.proofs.CellLaws.{Sized}
 use Rattle.memory.proofs.ScratchLaws.{scratch-sized, row-words}
 use Rattle.edges.specs.Edges.{Held}
@@ -31,7 +31,7 @@ use Rattle.transfer.specs.declared.direction.Direction.the-variants.{Initializa
 use Rattle.propagate.specs.Rounds.{Seedable, Propagated}
 use Rattle.transfer.proofs.TransferLaws.{running-at}
 use Rattle.edges.specs.Flow.{Flows}
-use Rattle.fixed_points.specs.FixedPoints.{roundsCharges, Fixed}
+use Rattle.fixed_points.specs.FixedPoints.{Fixed}
 use Rattle.fixed_points.specs.Stages.{Flowing, InOrder, Ready, RoundsDone}
 use Rattle.fixed_points.proofs.CodeGraph.{some-block}
 use Rattle.fixed_points.proofs.Bits.{RowsOfWords}

@@ -18,7 +18,7 @@ use Rattle.budget.specs.declared.Charged.{Charged}
 use Rattle.budget.specs.declared.Charged.the-variants.{Ok}
 use Rattle.memory.specs.Cells.{Mem, cell}
 use Rattle.memory.specs.Names.{parametersRow}
-use Rattle.memory.specs.declared.layout.Layout.{Layout}
+use Rattle.sizes.specs.declared.Layout.{Layout}
 use Rattle.edges.specs.Flow.{Flows}
 use Rattle.edges.proofs.FlowLaws.{Still}
 use Rattle.bitset.specs.Below.{AllBelow}
@@ -30,7 +30,8 @@ use Rattle.transfer.specs.Directions.{readsOf}
 use Rattle.transfer.specs.Transfer.{keptRow, entryOf, gathered}
 use Rattle.propagate.specs.Rounds.{rowsOf, gatherRows}
 use Rattle.propagate.proofs.Fixed.{kept-among, fixed-none, gather-all}
-use Rattle.fixed_points.specs.FixedPoints.{Scripted, Sets, Fixed}
+use Rattle.fixed_points.specs.FixedPoints.{Sets, Fixed}
+use Rattle.dataflow.specs.Checked.{Scripted}
 use Rattle.fixed_points.proofs.CodeGraph.{connected, edges-in}
 use Rattle.fixed_points.proofs.Bits.{bitsOf, below-each, Table, RowsOfWords, entry-words, entry-init, entry-live}
 use Rattle.fixed_points.proofs.Bits.{gathers-words, gathers-init, gathers-live}

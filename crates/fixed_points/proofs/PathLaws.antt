@@ -18,13 +18,15 @@ use Rattle.dataflow.proofs.Analyses.{filled-plain}
 use Rattle.dataflow.proofs.Bools.{not-true}
 use Rattle.dataflow.proofs.CodeBlocks.{basic-blocks, reached-iff}
 use Rattle.dataflow.proofs.FlowGraph.{live-entry-row}
-use Rattle.dataflow.proofs.Results.{reachable-iff, init-exit-at, live-entry-at, live-below, filled-below, unreached-init, unreached-live}
+use Rattle.dataflow.proofs.Results.{reachable-block, init-exit-at, live-entry-at, live-below, filled-below, unreached-init, unreached-live}
 use Rattle.memory.specs.Cells.{Mem, cell}
 use Rattle.memory.specs.Names.{initializedRow, liveRow}
 use Rattle.memory.specs.Sets.{SetsRow}
-use Rattle.memory.specs.declared.layout.Layout.{Layout}
-use Rattle.fixed_points.specs.FixedPoints.{Scripted, Sets}
-use Rattle.fixed_points.specs.PathSets.{firstOf, lastOf, ReachedBlock, FilledThrough, LiveFrom, PathSets}
+use Rattle.sizes.specs.declared.Layout.{Layout}
+use Rattle.fixed_points.specs.FixedPoints.{Sets}
+use Rattle.dataflow.specs.Checked.{Scripted}
+use Rattle.fixed_points.specs.PathSets.{PathSets}
+use Rattle.dataflow.specs.BlockPaths.{firstOf, lastOf, ReachedBlock, FilledThrough, LiveFrom}
 
 -- a list that is not empty, with its last element apart
 split-last : (x : ℕ) (t : List ℕ) → (u : List ℕ) × (x ∷ t ≡ u ++ (lastOr x t ∷ []))
@@ -66,7 +68,7 @@ module _ (code : List Instruction) (parameter : ℕ → Bool) (y : Layout) (h : 
   unreached : (c : ℕ) → c < y .blocks → (ReachedBlock code parameter c → ⊥) → reachable code c ≡ false
   unreached c lt never =
       not-true (reachable code c)
-      (λ e. never (block-reached c lt .1 (reachable-iff code parameter (h .slots) (y .words) (h .checked) (h .wide) c .0 e)))
+      (λ e. never (reachable-block code parameter (h .slots) (y .words) (h .checked) (h .wide) c (omega (arith, blocks)) .0 e))
 
   module _ (t : Mem) (long : (k : ℕ) → SetsRow y k → Words (y .words) (cell t k)) (g : Sets code parameter y t) where
     past : (k s : ℕ) → SetsRow y k → 64 * y .words ≤ s → member (cell t k) s ≡ false

@@ -31,7 +31,7 @@ use Rattle.budget.proofs.BudgetLaws.{over-then}
 use Rattle.memory.specs.Cells.{Mem, cell}
 use Rattle.memory.specs.Names.{orderCell, reachableCell}
 use Rattle.memory.specs.Scratch.{scratchWidths}
-use Rattle.memory.specs.declared.layout.Layout.{Layout}
+use Rattle.sizes.specs.declared.Layout.{Layout}
 use Rattle.memory.proofs.CellLaws.{Sized}
 use Rattle.memory.proofs.ScratchLaws.{sized-blocks}
 use Rattle.transfer.specs.declared.direction.Direction.{Direction}
@@ -46,7 +46,7 @@ use Rattle.propagate.proofs.Fixed.{rows-at, rows-long}
 use Rattle.propagate.proofs.Visits.{chargesOf, longer-charges}
 use Rattle.edges.specs.Edges.{marked}
 use Rattle.edges.specs.Flow.{Flows, Fresh}
-use Rattle.fixed_points.specs.FixedPoints.{Scripted}
+use Rattle.dataflow.specs.Checked.{Scripted}
 use Rattle.fixed_points.specs.Stages.{InOrder}
 use Rattle.fixed_points.proofs.CodeGraph.{directionOf, neighbors-are, reachable-are}
 use Rattle.fixed_points.proofs.Bits.{bitsOf, bit-at, bits-are, Table, RowsOfWords, frameOf, agrees}

@@ -9,19 +9,19 @@ use lib.ListN.{length, getD, set, length-reverse}
 use lib.Seq.{getD-set-other, getD-take}
 use Rattle.dataflow.specs.Analyses as analyses
 use Rattle.dataflow.specs.Code.{Instruction}
-use Rattle.dataflow.specs.Lists.{sum, NoDup}
+use Rattle.dataflow.specs.Lists.{sum, NoDup, flag}
 use Rattle.dataflow.specs.Results.{searched, postorder}
 use Rattle.dataflow.proofs.Lists.{mem-getD}
 use Rattle.dataflow.proofs.Results.{seed-sound}
 use Rattle.memory.specs.Cells.{Mem, cell, word}
-use Rattle.memory.specs.Names.{flag, orderCell, reachableCell}
+use Rattle.memory.specs.Names.{orderCell, reachableCell}
 use Rattle.memory.specs.Scratch.{scratchWidths}
-use Rattle.memory.specs.declared.layout.Layout.{Layout}
+use Rattle.sizes.specs.declared.Layout.{Layout}
 use Rattle.memory.proofs.CellLaws.{Sized}
 use Rattle.memory.proofs.ScratchLaws.{sized-blocks}
 use Rattle.propagate.specs.Rounds.{Seedable}
 use Rattle.edges.specs.Flow.{Flows}
-use Rattle.fixed_points.specs.FixedPoints.{Scripted}
+use Rattle.dataflow.specs.Checked.{Scripted}
 use Rattle.fixed_points.specs.Stages.{InOrder}
 use Rattle.solver.proofs.RingLaws.{sum-few}
 use Rattle.fixed_points.proofs.CodeGraph.{some-block, connected, flags-few}

@@ -2,16 +2,15 @@
 -- defined run.
 use mathlib.Core.Path.{_≡_}
 use mathlib.Core.Bool.{Bool, true, false}
-use mathlib.Core.List.{List, _++_}
+use mathlib.Core.List.{List}
 use Prim.Native.Nat.{ℕ, _*_, _≤_, _<_}
 use Rattle.bitset.specs.Sets.{member}
 use Rattle.dataflow.specs.Analyses.{initialization, liveness}
-use Rattle.dataflow.specs.Program.{EmptiesNothing}
-use Rattle.dataflow.specs.Code.{Instruction, program}
-use Rattle.dataflow.specs.Checked.{Checked}
+use Rattle.dataflow.specs.Code.{Instruction}
+use Rattle.dataflow.specs.Checked.{Scripted}
 use Rattle.dataflow.specs.Framework.{bitAt}
 use Rattle.dataflow.specs.Results.{result}
-use Rattle.dataflow.specs.Charges.{postorderCharges, propagateCharges}
+use Rattle.dataflow.specs.Charges.{fixedPointsCharges}
 use Rattle.budget.specs.declared.FlowBudget.{FlowBudget}
 use Rattle.budget.specs.declared.Limits.{Limits}
 use Rattle.budget.specs.declared.Charged.{Charged}
@@ -19,15 +18,8 @@ use Rattle.budget.specs.declared.Charged.the-variants.{Ok}
 use Rattle.budget.specs.Budget.{charged}
 use Rattle.memory.specs.Cells.{Mem, cell}
 use Rattle.memory.specs.Names.{orderCell, successorCell, stateRow, parametersRow, initializedRow, liveRow}
-use Rattle.memory.specs.declared.layout.Layout.{Layout}
+use Rattle.sizes.specs.declared.Layout.{Layout}
 use Rattle.edges.specs.Flow.{Flows, Fresh}
-
--- code that passed the checks, and sets of so many words are wide enough for its slots
-pub record Scripted (code : List Instruction) (parameter : ℕ → Bool) (words : ℕ) : Type 0 where
-  pub slots : ℕ
-  pub checked : Checked code parameter slots
-  pub wide : slots ≤ 64 * words
-  pub empties : EmptiesNothing (program code parameter)
 
 -- the words of the sets buffer hold both sets of every block, as the defined run ends with them
 pub record Sets (code : List Instruction) (parameter : ℕ → Bool) (y : Layout) (t : Mem) : Type 0 where
@@ -35,14 +27,6 @@ pub record Sets (code : List Instruction) (parameter : ℕ → Bool) (y : Layout
       → member (cell t (initializedRow c)) i ≡ bitAt true (result code parameter (y .words) initialization .sets) c i
   pub live : (c i : ℕ) → c < y .blocks → i < 64 * y .words
       → member (cell t (liveRow c)) i ≡ bitAt false (result code parameter (y .words) liveness .sets) c i
-
--- the charges of both rounds
-abbrev pub roundsCharges : List Instruction → (ℕ → Bool) → ℕ → List ℕ
-roundsCharges code parameter words = propagateCharges code parameter words initialization ++ propagateCharges code parameter words liveness
-
--- all charges of `fixed_points`
-abbrev pub fixedPointsCharges : List Instruction → (ℕ → Bool) → ℕ → List ℕ
-fixedPointsCharges code parameter words = postorderCharges code ++ roundsCharges code parameter words
 
 -- what `fixed_points` does
 pub record Fixed (y : Layout) (l : Limits) (b : FlowBudget) (m m′ t t′ : Mem) (r : Charged) : Type 0 where

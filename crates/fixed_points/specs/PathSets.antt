@@ -1,37 +1,16 @@
 -- Demand 2 on the rows of the sets buffer: both sets of every block, by paths.
 use mathlib.Core.Path.{_≡_}
 use mathlib.Core.Logic.{_↔_}
-use mathlib.Core.Bool.{Bool, true, _||_}
-use mathlib.Core.List.{List, [], _∷_, _++_}
+use mathlib.Core.Bool.{Bool, true}
+use mathlib.Core.List.{List}
 use Prim.Native.Nat.{ℕ, _<_}
 use lib.ListN.{replicate}
 use Rattle.bitset.specs.Sets.{member, ones}
-use Rattle.dataflow.specs.Analyses.{written, Live}
-use Rattle.dataflow.specs.Code.{Instruction, program, successors, body, headOr, lastOr}
-use Rattle.dataflow.specs.Paths.{Path, Reached}
+use Rattle.dataflow.specs.Code.{Instruction}
+use Rattle.dataflow.specs.BlockPaths.{ReachedBlock, FilledThrough, LiveFrom}
 use Rattle.memory.specs.Cells.{Mem, cell}
 use Rattle.memory.specs.Names.{initializedRow, liveRow}
-use Rattle.memory.specs.declared.layout.Layout.{Layout}
-
-module _ (code : List Instruction) (parameter : ℕ → Bool) where
-  -- the first and the last instruction of block c
-  abbrev pub firstOf : ℕ → ℕ
-  firstOf c = headOr 0 (body code c)
-
-  abbrev pub lastOf : ℕ → ℕ
-  lastOf c = lastOr 0 (body code c)
-
-  -- some path from instruction 0 reaches block c
-  abbrev pub ReachedBlock : ℕ → Type 0
-  ReachedBlock c = Reached (program code parameter) (firstOf c)
-
-  -- on every path from 0 through the block's last instruction s is a parameter or written
-  abbrev pub FilledThrough : ℕ → ℕ → Type 0
-  FilledThrough c s = (l : List ℕ) → Path (successors code) 0 l (lastOf c) → (parameter s || written (program code parameter) (l ++ (lastOf c ∷ [])) s) ≡ true
-
-  -- some path that begins at the block's start reads s before writing it
-  abbrev pub LiveFrom : ℕ → ℕ → Type 0
-  LiveFrom c s = Live (program code parameter) (firstOf c) s
+use Rattle.sizes.specs.declared.Layout.{Layout}
 
 -- the rows of every block: by paths if some path reaches it, else all ones and zero
 pub record PathSets (code : List Instruction) (parameter : ℕ → Bool) (slots : ℕ) (y : Layout) (t : Mem) : Type 0 where

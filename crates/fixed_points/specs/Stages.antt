@@ -13,9 +13,11 @@ use Rattle.budget.specs.declared.Charged.the-variants.{Ok}
 use Rattle.budget.specs.Budget.{charged}
 use Rattle.memory.specs.Cells.{Mem, cell}
 use Rattle.memory.specs.Names.{orderCell, ringCell, queuedCell, stateRow, liveStateRow}
-use Rattle.memory.specs.declared.layout.Layout.{Layout}
+use Rattle.sizes.specs.declared.Layout.{Layout}
 use Rattle.edges.specs.Flow.{Flows, Fresh}
-use Rattle.fixed_points.specs.FixedPoints.{Scripted, Sets, roundsCharges}
+use Rattle.fixed_points.specs.FixedPoints.{Sets}
+use Rattle.dataflow.specs.Checked.{Scripted}
+use Rattle.dataflow.specs.Charges.{roundsCharges}
 
 -- the words of scratch hold the graph of some code that passed the checks
 abbrev pub Flowing : Layout → Mem → Type 0

@@ -2,8 +2,8 @@
 use budget::Charged;
 use budget::FlowBudget;
 use budget::Limits;
-use memory::layout::Layout;
 use order::Ordered;
+use sizes::Layout;
 use transfer::direction::Direction;
 ghost use mathlib.Core.Path.{_≡_};
 ghost use Prim.Native.Nat.{_-_, _^_, _<_};

@@ -4,19 +4,18 @@ use mathlib.Core.List.{List, [], _∷_, _++_}
 use Prim.Native.Nat.{ℕ, suc, _+_, _-_, _^_, _%_, _≤_, _<_}
 use native.Mathlib.Omega.{arith}
 use lib.ListN.{length, getD, replicate}
-use Rattle.dataflow.specs.Lists.{tabulate}
+use Rattle.dataflow.specs.Lists.{tabulate, flag}
 use Rattle.dataflow.proofs.Lists.{tabulate-among, tabulate-same, tabulate-append}
 use Rattle.dataflow.specs.Code.{leaders, blockSuccessors}
 use Rattle.dataflow.specs.Results.{reachable}
 use Rattle.budget.specs.declared.FlowBudget.{FlowBudget}
 use Rattle.budget.specs.Budget.{todays}
-use Rattle.memory.specs.declared.layout.Layout.{Layout}
+use Rattle.sizes.specs.declared.Layout.{Layout}
 use Rattle.memory.specs.Cells.{Mem}
-use Rattle.memory.specs.Names.{flag}
 use Rattle.memory.specs.Scratch.{scratch}
 use Rattle.sheet.specs.declared.script.Script.{Script}
 use Rattle.sheet.specs.Decode.{partsOf}
-use Rattle.sheet.specs.Checks.{scriptOf}
+use Rattle.sheet.specs.Scripts.{scriptOf}
 use Rattle.instructions.specs.Sound.{Sound}
 use Rattle.script.specs.Script.{flowCode, parameterIn}
 use Rattle.outcome.specs.Outcome.{Lengths}
@@ -24,7 +23,8 @@ use Rattle.outcome.specs.Buffers.{blockRecord}
 use Rattle.demands.proofs.DemandLaws.{accepted-sound}
 use Rattle.blocklist.specs.List.{recordIn}
 use Rattle.block_records.specs.declared.Block.{Block}
-use Rattle.block_records.specs.Records.{blockIn, zeroBlock, listedBlock}
+use Rattle.block_records.specs.Records.{blockIn, listedBlock}
+use Rattle.block_records.specs.Blocks.{zeroBlock, blockOf}
 use Rattle.block_records.proofs.RecordLaws.{listed-in, listed-behind}
 use Rattle.examine.specs.Examine.{outcomeIn, Listing, Examines}
 use Rattle.examine.specs.declared.Examined.{Examined}
@@ -32,7 +32,7 @@ use Rattle.examine.specs.declared.Examined.the-variants.{Accepted, Refused}
 use Rattle.answers.specs.declared.Answer.{Answer}
 use Rattle.answers.specs.Answers.{outcomeBy, answerIn, layoutIn}
 use Rattle.answers.proofs.AnswerLaws.{own-slots, same-outcome, verified}
-use Rattle.flow_blocks.specs.BlocksVerify.{blockOf, sheetBlock, blocksAfter, lengthsOf, BlocksVerified}
+use Rattle.flow_blocks.specs.BlocksVerify.{sheetBlock, blocksAfter, lengthsOf, BlocksVerified}
 use Rattle.flow_blocks.proofs.Bounds.{small-start, small-flag, small-count, small-successor}
 
 -- ---- lists

@@ -9,7 +9,7 @@ use Rattle.dataflow.specs.Code.{Instruction, leaders, blockSuccessors}
 use Rattle.dataflow.proofs.Lists.{mem-getD}
 use Rattle.dataflow.proofs.Leaders.{leaders-below}
 use Rattle.dataflow.proofs.CodeBlocks.{successors-below}
-use Rattle.memory.specs.Names.{flag}
+use Rattle.dataflow.specs.Lists.{flag}
 use Rattle.sheet.specs.declared.script.Script.{Script}
 use Rattle.sheet.specs.Decode.{partsOf}
 use Rattle.instructions.specs.Sound.{Sound}

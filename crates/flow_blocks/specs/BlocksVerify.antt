@@ -2,7 +2,7 @@
 use mathlib.Core.Path.{_≡_}
 use mathlib.Core.List.{List, _++_}
 use Prim.Native.Nat.{ℕ, _-_}
-use lib.ListN.{length, getD, replicate}
+use lib.ListN.{length, replicate}
 use Rattle.dataflow.specs.Lists.{tabulate}
 use Rattle.budget.specs.declared.FlowBudget.{FlowBudget}
 use Rattle.budget.specs.Budget.{todays}
@@ -11,20 +11,9 @@ use Rattle.script.specs.Script.{flowCode, parameterIn}
 use Rattle.outcome.specs.Outcome.{Lengths, lengthsWith, Outcome, accepted, refused}
 use Rattle.outcome.specs.Buffers.{blockRecord}
 use Rattle.block_records.specs.declared.Block.{Block}
-use Rattle.block_records.specs.Records.{zeroBlock}
+use Rattle.block_records.specs.Blocks.{blockOf, zeroBlock}
 use Rattle.answers.specs.declared.Answer.{Answer}
 use Rattle.answers.specs.Answers.{outcomeBy, Verified}
-
--- the struct of a block record: its six numbers, in their order
-abbrev pub blockOf : List ℕ → Block
-blockOf l = record {
-  start = getD l 0 0;
-  end = getD l 1 0;
-  reachable = getD l 2 0;
-  «successor_count» = getD l 3 0;
-  «successor_0» = getD l 4 0;
-  «successor_1» = getD l 5 0;
-}
 
 module _ (s : List ℕ) where
   -- block c of the sheet

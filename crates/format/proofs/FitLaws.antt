@@ -12,19 +12,8 @@ use Rattle.operands.specs.Patterns.{Sopt, Dopt, T, M, L, roleAt, fixedAt, listA
 use Rattle.operands.specs.Bytes.{u32At, numbersAt}
 use Rattle.operands.proofs.PatternLaws.{role-late}
 use Rattle.format.proofs.Or.{or-none}
-use Rattle.format.specs.Fields.{
-  optional,
-  namesSlot,
-  badModule,
-  noSlot,
-  noTarget,
-  boundOf,
-  Faultless,
-  anyField,
-  anyAbove,
-  noFaults,
-  FaultsIn,
-}
+use Rattle.format.specs.Fields.{optional, namesSlot, badModule, noSlot, noTarget, anyField, anyAbove}
+use Rattle.format.specs.Answers.{boundOf, Faultless, noFaults, FaultsIn}
 
 -- one field, of any role
 module _ (slots n role x : ℕ) where

@@ -9,7 +9,8 @@ use lib.Dec.{ltb}
 use lib.ListN.{length}
 use Rattle.operands.specs.Choice.{pick}
 use Rattle.format.specs.declared.head.Head.the-variants.{Record, Short}
-use Rattle.format.specs.Heads.{u16At, kindAt, endAt, short, headAt, Inside}
+use Rattle.format.specs.Heads.{u16At, kindAt, endAt, short}
+use Rattle.format.specs.Answers.{headAt, Inside}
 use Rattle.format.proofs.Or.{or-none}
 
 -- one for each way through `head_at`

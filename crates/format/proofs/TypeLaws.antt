@@ -8,24 +8,8 @@ use borrow.Author.Tests.{le-leb, lt-leb, ne-eqb}
 use lib.ListN.{getD}
 use lib.Dec.{eqb}
 use Rattle.format.specs.declared.types.Typed.the-variants.{Got, BadType}
-use Rattle.format.specs.Types.{
-  Ty,
-  Items,
-  tuple,
-  item,
-  inlineHost,
-  anyHost,
-  Read,
-  got,
-  unfit,
-  then,
-  itemsAt,
-  leaf,
-  typeAt,
-  wholeType,
-  typedOf,
-  itemsOf,
-}
+use Rattle.format.specs.Types.{Ty, Items, tuple, item, inlineHost, anyHost, Read, got, unfit, then, itemsAt, leaf, typeAt, wholeType}
+use Rattle.format.specs.Answers.{typedOf, itemsOf}
 
 -- a type that is no tuple, as the code answers it
 leaf-host : (b at : ℕ) → 1 ≤ b → b ≤ 3 → typedOf (leaf b at) ≡ Got (at + 1) (eqb b 2 || eqb b 3)

@@ -1,13 +1,10 @@
 -- The fields of a record: what of the refusal table is due for one of them.
-use mathlib.Core.Path.{_≡_}
 use mathlib.Core.Bool.{Bool, false, _||_, _&&_, not}
 use mathlib.Core.List.{List, [], _∷_}
 use Prim.Native.Nat.{ℕ, _+_}
 use lib.Dec.{eqb, leb}
-use Rattle.operands.specs.Choice.{pick}
 use Rattle.operands.specs.Places.{absent}
 use Rattle.operands.specs.Patterns.{D, S, Sopt, Dopt, T, M, L, roleAt}
-use Rattle.format.specs.declared.fields.Faults.{Faults}
 
 -- a field that may hold `absent`: S? and D?
 abbrev pub optional : ℕ → Bool
@@ -29,16 +26,6 @@ noSlot slots role x = namesSlot role && (leb slots x && not (optional role && eq
 unfoldable pub noTarget : ℕ → ℕ → ℕ → Bool
 noTarget n role x = eqb role T && leb n x
 
--- what a field must be below, unless it is absent where that may be
-unfoldable pub boundOf : ℕ → ℕ → ℕ → ℕ
-boundOf slots n role = pick (eqb role T) n (pick (eqb role M) 65536 slots)
-
--- a field with which nothing is wrong
-pub record Faultless (slots n role x : ℕ) : Type 0 where
-  pub module-fits : badModule role x ≡ false
-  pub slot-there : noSlot slots role x ≡ false
-  pub target-there : noTarget n role x ≡ false
-
 -- whether a test of role and value holds at a field of an instruction of kind k, from field j on
 unfoldable pub anyField : (ℕ → ℕ → Bool) → ℕ → ℕ → List ℕ → Bool
 anyField f k j [] = false
@@ -48,13 +35,3 @@ anyField f k j (x ∷ xs) = f (roleAt k j) x || anyField f k (j + 1) xs
 unfoldable pub anyAbove : ℕ → List ℕ → Bool
 anyAbove n [] = false
 anyAbove n (x ∷ xs) = leb n x || anyAbove n xs
-
--- the code's answer where nothing is wrong
-abbrev pub noFaults : Faults
-noFaults = record { modules = false; slots = false; targets = false }
-
--- the code's answer for the fields v of an instruction of kind k
-pub record FaultsIn (k : ℕ) (v : List ℕ) (slots n : ℕ) (r : Faults) : Type 0 where
-  pub modules-are : r .modules ≡ anyField badModule k 0 v
-  pub slots-are : r .slots ≡ anyField (noSlot slots) k 0 v
-  pub targets-are : r .targets ≡ anyField (noTarget n) k 0 v

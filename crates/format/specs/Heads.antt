@@ -1,15 +1,11 @@
 -- Where a record stands and what kind it has. Document 01: a record is a two-byte length (bytes after it, at least 2), a two-byte kind, then
 -- the body.
-use mathlib.Core.Path.{_≡_}
-use mathlib.Core.Bool.{Bool, false, _||_}
+use mathlib.Core.Bool.{Bool, _||_}
 use mathlib.Core.List.{List}
-use Prim.Native.Nat.{ℕ, _+_, _*_, _-_, _/_, _≤_}
+use Prim.Native.Nat.{ℕ, _+_, _*_, _-_, _/_}
 use lib.Dec.{ltb}
 use lib.ListN.{length, getD}
-use Rattle.operands.specs.Choice.{pick}
 use Rattle.operands.specs.Bytes.{numbersAt}
-use Rattle.format.specs.declared.head.Head.{Head}
-use Rattle.format.specs.declared.head.Head.the-variants.{Record, Short}
 
 -- the number of two bytes at an offset, the low one first
 abbrev pub u16At : List ℕ → ℕ → ℕ
@@ -34,16 +30,3 @@ fieldsAt s at = numbersAt s (at + 4) (bodyLength s at / 4)
 -- 1, short sheet: fewer bytes left than the record needs, or length below 2
 unfoldable pub short : List ℕ → ℕ → Bool
 short s at = ltb (length s) (at + 4) || (ltb (u16At s at) 2 || ltb (length s) (endAt s at))
-
--- its head, as the code answers it
-unfoldable pub headAt : List ℕ → ℕ → Head
-headAt s at = pick (short s at) Short (Record (kindAt s at) (at + 4) (endAt s at))
-
--- what a head that was found says: the record's kind, where its body begins and where it ends, inside the sheet
-pub record Inside (s : List ℕ) (at kind body end : ℕ) : Type 0 where
-  pub whole : short s at ≡ false
-  pub is-kind : kind ≡ kindAt s at
-  pub is-body : body ≡ at + 4
-  pub is-end : end ≡ endAt s at
-  pub ordered : body ≤ end
-  pub within : end ≤ length s

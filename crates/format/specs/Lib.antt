@@ -1,5 +1,6 @@
--- What a record of a sheet is made of. Reading order: Refusals, Heads, Types, Fields.
+-- What a record of a sheet is made of. Reading order: Refusals, Heads, Types, Fields. Answers says what the code answers.
 pub mod Refusals
 pub mod Heads
 pub mod Types
 pub mod Fields
+pub mod Answers

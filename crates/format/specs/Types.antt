@@ -6,8 +6,6 @@ use Prim.Native.Nat.{ℕ, zero, suc, _+_}
 use lib.Dec.{eqb, leb}
 use lib.ListN.{getD}
 use Rattle.operands.specs.Choice.{pick}
-use Rattle.format.specs.declared.types.Typed.{Typed}
-use Rattle.format.specs.declared.types.Typed.the-variants.{Got, BadType}
 
 -- a type, and the items of a tuple
 mutual
@@ -72,13 +70,3 @@ wholeType s end at =
 abbrev pub endsWith : {A : Type 0} → ℕ → Read A → Bool
 endsWith end (got x next) = eqb next end
 endsWith end unfit = false
-
--- the code's answer: where the type ends, and whether `inline_host` accepts it
-abbrev pub typedOf : Read Ty → Typed
-typedOf (got t next) = Got next (inlineHost t)
-typedOf unfit = BadType
-
--- the same of items, after others of which one was accepted or none
-abbrev pub itemsOf : Bool → Read Items → Typed
-itemsOf h (got ts next) = Got next (h || anyHost ts)
-itemsOf h unfit = BadType

@@ -11,7 +11,8 @@ ghost use lib.ListN.{length};
 ghost use Rattle.operands.specs.Bytes.{u32At, numbersAt};
 ghost use Rattle.operands.specs.Instructions.{Known};
 ghost use Rattle.operands.specs.Patterns.{fits, roleAt};
-ghost use Rattle.format.specs.Fields.{badModule, noSlot, noTarget, boundOf, Faultless, anyAbove, noFaults, FaultsIn};
+ghost use Rattle.format.specs.Fields.{badModule, noSlot, noTarget, anyAbove};
+ghost use Rattle.format.specs.Answers.{boundOf, Faultless, noFaults, FaultsIn};
 
 // What is wrong with the fields of an instruction.
 pub struct Faults {

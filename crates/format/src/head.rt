@@ -1,7 +1,7 @@
 // The head of a record: a length of two bytes, which counts the bytes after it, and a kind of two bytes. The body follows.
 use crate::bytes;
 ghost use mathlib.Core.Path.{_≡_};
-ghost use Rattle.format.specs.Heads.{headAt};
+ghost use Rattle.format.specs.Answers.{headAt};
 
 pub enum Head {
     // The kind, where the body begins, and where the record ends.

@@ -2,7 +2,8 @@
 ghost use mathlib.Core.Path.{_≡_};
 ghost use Prim.Native.Nat.{_≤_};
 ghost use lib.ListN.{length};
-ghost use Rattle.format.specs.Types.{typeAt, itemsAt, wholeType, typedOf, itemsOf};
+ghost use Rattle.format.specs.Types.{typeAt, itemsAt, wholeType};
+ghost use Rattle.format.specs.Answers.{typedOf, itemsOf};
 
 // The byte that a type begins with.
 pub const ABSENT: u8 = 0;

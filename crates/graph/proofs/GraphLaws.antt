@@ -8,7 +8,7 @@ use lib.ListN.{length, take}
 use Rattle.bitset.specs.Rows.{patched}
 use Rattle.bitset.specs.Sets.{member}
 use Rattle.dataflow.specs.Code.{blockSuccessors}
-use Rattle.dataflow.specs.Charges.{operandCharges, reachabilityCharges}
+use Rattle.dataflow.specs.Charges.{operandCharges, reachabilityCharges, buildingCharges}
 use Rattle.budget.specs.declared.FlowBudget.{FlowBudget}
 use Rattle.budget.specs.declared.Limits.{Limits}
 use Rattle.budget.specs.declared.Charged.{Charged}
@@ -19,7 +19,7 @@ use Rattle.format.specs.declared.refusal.Refusal.{Refusal}
 use Rattle.format.specs.declared.refusal.Refusal.the-variants.{WorkLimit}
 use Rattle.memory.specs.Cells.{Mem, cell, storeCell, total}
 use Rattle.memory.specs.Names.{offsetCell, blockOfCell, leaderCell, parametersRow}
-use Rattle.memory.specs.declared.layout.Layout.{Layout}
+use Rattle.sizes.specs.declared.Layout.{Layout}
 use Rattle.memory.specs.Scratch.{scratch, scratchWidths, Room, Row}
 use Rattle.memory.specs.Sets.{sets, SetsRoom}
 use Rattle.memory.proofs.CellLaws.{cell-store-same}
@@ -37,11 +37,12 @@ use Rattle.edges.specs.Flow.{Fresh}
 use Rattle.blocks.specs.Blocks.{Ready}
 use Rattle.blocks.specs.Blocks as building
 use Rattle.blocks.proofs.KeptLaws.{ready-kept}
-use Rattle.rooms.specs.declared.Staged.{Staged}
-use Rattle.rooms.specs.declared.Staged.the-variants.{Ok, Refused}
-use Rattle.rooms.specs.Rooms.{ifMet, Indexes, Measured}
+use Rattle.sizes.specs.declared.Staged.{Staged}
+use Rattle.sizes.specs.declared.Staged.the-variants.{Ok, Refused}
+use Rattle.rooms.specs.Rooms.{Indexes, Measured}
+use Rattle.sizes.specs.Stages.{ifMet, ifOk, stage, graphOf}
 use Rattle.rooms.proofs.RoomLaws.{over-refused}
-use Rattle.graph.specs.Graph.{ifOk, stage, graphOf, Holding, Graphed, Parameters, Joined, Reaches, Built}
+use Rattle.graph.specs.Graph.{Holding, Graphed, Parameters, Joined, Reaches, Built}
 use Rattle.graph.proofs.HoldingLaws.{some-block, blocks-hold, joined-hold, all-held}
 
 -- ---- a row of scratch
@@ -169,16 +170,16 @@ module _ (s : List ℕ) (parameter : ℕ → Bool) (x : Script) (y : Layout) (l 
 module _ (s : List ℕ) (parameter : ℕ → Bool) (x : Script) (l : Limits) (records : ℕ) (b : FlowBudget) (w w₁ v : List ℕ) (c : Staged)
     (g : Measured s x l (record { sets = length v; records = records }) b w w₁ c) where
   -- the answer is what follows that of `measure`
-  answer-on : ifOk c (stage l (operandCharges (flowCode (partsOf s)) ++ reachabilityCharges (flowCode (partsOf s))))
-      ≡ graphOf s x l (record { sets = length v; records = records }) (length w) b
+  answer-on : ifOk c (stage l (buildingCharges (flowCode (partsOf s))))
+      ≡ graphOf (flowCode (partsOf s)) x l (record { sets = length v; records = records }) (length w) b
   unfolding graphOf
   answer-on =
-      ap (λ (d : Staged). ifOk d (stage l (operandCharges (flowCode (partsOf s)) ++ reachabilityCharges (flowCode (partsOf s))))) (g .answer)
+      ap (λ (d : Staged). ifOk d (stage l (buildingCharges (flowCode (partsOf s))))) (g .answer)
 
   -- refused before the blocks are built
   pub graphed-refused : (n : Refusal) (z : FlowBudget) (v′ : List ℕ) → c ≡ Refused n z → Graphed s parameter x l records b w w₁ v v′ c
   graphed-refused n z v′ e = record {
-    answer = e ∙ ap (λ (d : Staged). ifOk d (stage l (operandCharges (flowCode (partsOf s)) ++ reachabilityCharges (flowCode (partsOf s))))) (sym e)
+    answer = e ∙ ap (λ (d : Staged). ifOk d (stage l (buildingCharges (flowCode (partsOf s))))) (sym e)
         ∙ answer-on;
     rooms = λ y left q. let o : _≡_ {A = ℕ} 0 1 = cc in absurd (omega arith);
     holding = λ y left q. let o : _≡_ {A = ℕ} 0 1 = cc in absurd (omega arith);
@@ -200,7 +201,7 @@ module _ (s : List ℕ) (parameter : ℕ → Bool) (x : Script) (l : Limits) (re
         → Graphed s parameter x l records b w w₂ v v₂ r
     graphed-on w₂ v₂ r long f = record {
       answer = f .answer
-          ∙ ap (λ (d : Staged). ifOk d (stage l (operandCharges (flowCode (partsOf s)) ++ reachabilityCharges (flowCode (partsOf s))))) (sym ec)
+          ∙ ap (λ (d : Staged). ifOk d (stage l (buildingCharges (flowCode (partsOf s))))) (sym ec)
           ∙ answer-on;
       rooms = λ y′ left′ q. subst (λ (z : Layout). Indexes s x (record { sets = length v; records = records }) w₂ z) (same y′ left′ q)
           (record {
@@ -217,5 +218,5 @@ module _ (s : List ℕ) (parameter : ℕ → Bool) (x : Script) (l : Limits) (re
       where
         same : (y′ : Layout) (left′ : FlowBudget) → r ≡ Ok y′ left′ → y ≡ y′
         same y′ left′ q =
-            staged-met (charged l left (operandCharges (flowCode (partsOf s)) ++ reachabilityCharges (flowCode (partsOf s)))) y y′ left′
+            staged-met (charged l left (buildingCharges (flowCode (partsOf s)))) y y′ left′
             (sym (f .answer) ∙ q) .1

@@ -14,9 +14,10 @@ use Rattle.budget.specs.declared.Limits.{Limits}
 use Rattle.budget.specs.declared.Charged.{Charged}
 use Rattle.budget.specs.declared.Charged.the-variants as charging
 use Rattle.memory.specs.Cells.{Mem, cell}
-use Rattle.memory.specs.Names.{offsetCell, blockOfCell, leaderCell, firstEdgeCell, predecessorCountCell, nextEdgeCell, parametersRow, flag}
+use Rattle.memory.specs.Names.{offsetCell, blockOfCell, leaderCell, firstEdgeCell, predecessorCountCell, nextEdgeCell, parametersRow}
+use Rattle.dataflow.specs.Lists.{flag}
 use Rattle.memory.specs.Frame.{Only, ThisRow}
-use Rattle.memory.specs.declared.layout.Layout.{Layout}
+use Rattle.sizes.specs.declared.Layout.{Layout}
 use Rattle.memory.proofs.EdgeLaws.{successor-few}
 use Rattle.memory.proofs.FrameLaws.{only-then, only-more}
 use Rattle.sheet.specs.declared.script.Script.{Script}

@@ -1,20 +1,18 @@
 -- `graph` and `reachability` of flow.rs: the answer, and what both buffers hold where it goes on.
 use mathlib.Core.Path.{_≡_}
 use mathlib.Core.Bool.{Bool}
-use mathlib.Core.List.{List, [], _∷_, _++_}
+use mathlib.Core.List.{List, []}
 use Prim.Native.Nat.{ℕ, _<_}
 use lib.ListN.{length}
 use Rattle.bitset.specs.Sets.{member}
-use Rattle.dataflow.specs.Charges.{leaderCharges, operandCharges, reachabilityCharges}
-use Rattle.dataflow.specs.Results.{blockCount}
+use Rattle.dataflow.specs.Charges.{buildingCharges}
 use Rattle.budget.specs.declared.FlowBudget.{FlowBudget}
 use Rattle.budget.specs.declared.Limits.{Limits}
 use Rattle.budget.specs.declared.Charged.{Charged}
-use Rattle.budget.specs.Budget.{charged}
 use Rattle.memory.specs.Cells.{Mem, cell, storeCell}
 use Rattle.memory.specs.Names.{parametersRow}
 use Rattle.memory.specs.Frame.{Only, ThisRow}
-use Rattle.memory.specs.declared.layout.Layout.{Layout}
+use Rattle.sizes.specs.declared.Layout.{Layout}
 use Rattle.memory.specs.Scratch.{scratch}
 use Rattle.memory.specs.Sets.{sets}
 use Rattle.sheet.specs.declared.script.Script.{Script}
@@ -25,25 +23,10 @@ use Rattle.edges.specs.Predecessors.{Linked}
 use Rattle.edges.specs.Reachability.{Reached}
 use Rattle.edges.specs.Flow.{Flows, Fresh}
 use Rattle.blocks.specs.Blocks.{Block}
-use Rattle.rooms.specs.declared.Lent.{Lent}
-use Rattle.rooms.specs.declared.Staged.{Staged}
-use Rattle.rooms.specs.declared.Staged.the-variants.{Ok, Refused}
-use Rattle.rooms.specs.Rooms.{layoutOf, roomsOf, ifMet, Indexes}
-
--- what follows a stage that goes on; a refusal stays
-abbrev pub ifOk : Staged → (Layout → FlowBudget → Staged) → Staged
-ifOk (Ok y b) f = f y b
-ifOk (Refused n b) f = Refused n b
-
--- charges that leave the layout as it is
-abbrev pub stage : Limits → List ℕ → Layout → FlowBudget → Staged
-stage l cs y b = ifMet (charged l b cs) (Ok y)
-
--- the answer, by the refusals' order: 12 at a charge up to the first loop's end, 11, 10, 12 at a later charge. n words of scratch are lent.
-unfoldable pub graphOf : List ℕ → Script → Limits → Lent → ℕ → FlowBudget → Staged
-graphOf s x l lent n b =
-    ifOk (ifMet (charged l b (0 ∷ leaderCharges (flowCode (partsOf s)))) (roomsOf l (layoutOf x (blockCount (flowCode (partsOf s)))) n lent))
-    (stage l (operandCharges (flowCode (partsOf s)) ++ reachabilityCharges (flowCode (partsOf s))))
+use Rattle.sizes.specs.declared.Staged.{Staged}
+use Rattle.sizes.specs.declared.Staged.the-variants.{Ok}
+use Rattle.rooms.specs.Rooms.{Indexes}
+use Rattle.sizes.specs.Stages.{ifMet, stage, graphOf}
 
 -- what the words of scratch hold of a script with whatever set of parameters: its index, every block, the flow graph
 pub record Holding (s : List ℕ) (parameter : ℕ → Bool) (x : Script) (y : Layout) (m : Mem) : Type 0 where
@@ -53,7 +36,7 @@ pub record Holding (s : List ℕ) (parameter : ℕ → Bool) (x : Script) (y : L
 
 -- what `graph` does: w and v are the words of scratch and of the sets buffer
 pub record Graphed (s : List ℕ) (parameter : ℕ → Bool) (x : Script) (l : Limits) (records : ℕ) (b : FlowBudget) (w w′ v v′ : List ℕ) (r : Staged) : Type 0 where
-  pub answer : r ≡ graphOf s x l (record { sets = length v; records = records }) (length w) b
+  pub answer : r ≡ graphOf (flowCode (partsOf s)) x l (record { sets = length v; records = records }) (length w) b
   pub rooms : (y : Layout) (left : FlowBudget) → r ≡ Ok y left → Indexes s x (record { sets = length v; records = records }) w′ y
   pub holding : (y : Layout) (left : FlowBudget) → r ≡ Ok y left → Holding s parameter x y (scratch y w′)
   pub fresh : (y : Layout) (left : FlowBudget) → r ≡ Ok y left → Fresh y (sets y v′)
@@ -79,6 +62,6 @@ pub record Reaches (y : Layout) (l : Limits) (b : FlowBudget) (m m′ : Mem) (r 
 
 -- what `build` does
 pub record Built (s : List ℕ) (parameter : ℕ → Bool) (x : Script) (y : Layout) (l : Limits) (b : FlowBudget) (m m′ t′ : Mem) (r : Staged) : Type 0 where
-  pub answer : r ≡ stage l (operandCharges (flowCode (partsOf s)) ++ reachabilityCharges (flowCode (partsOf s))) y b
+  pub answer : r ≡ stage l (buildingCharges (flowCode (partsOf s))) y b
   pub holding : (y′ : Layout) (left : FlowBudget) → r ≡ Ok y′ left → Holding s parameter x y m′
   pub fresh : (y′ : Layout) (left : FlowBudget) → r ≡ Ok y′ left → Fresh y t′

@@ -3,10 +3,11 @@ use budget::Charged;
 use budget::FlowBudget;
 use budget::Limits;
 use format::refusal::Refusal;
-use memory::layout::Layout;
-use rooms::Lent;
-use rooms::Staged;
+use memory::layout;
 use sheet::script::Script;
+use sizes::Layout;
+use sizes::Lent;
+use sizes::Staged;
 ghost use Prim.Native.Nat.{_*_, _≤_, _<_};
 ghost use lib.ListN.{length};
 ghost use Rattle.memory.specs.Scratch.{scratch, Room};
@@ -80,7 +81,7 @@ fn parameters(sheet: &[u8], added: &[u64], s: &mut [u64], script: Script, y: Lay
     requires { ⌜ Room y (length (now s)) × (Sound (now sheet) script) × (script .slots ≤ 64 * y .words) ⌝ }
     ensures { λ _. ⌜ Parameters (parameterWith (partsOf (now (sheet .entry))) (now (added .entry))) y (scratch y (now (s .entry))) (scratch y (now (s .exit))) ⌝ }
 {
-    let base = y.scratch_start(y.parameters());
+    let base = layout::scratch_start(y, layout::parameters(y));
     let w = y.words;
     starts::insert_all(sheet, script, added, s, base, w);
 }

@@ -9,13 +9,13 @@ use lib.Bits.{bitOr, or-zero-r}
 use lib.ListN.{length, getD, set, length-set}
 use lib.Seq.{getD-set-same, set-set, set-getD}
 use Rattle.operands.specs.Choice.{pick}
-use Rattle.bitset.specs.Sets.{inserted}
+use Rattle.bitset.specs.Operations.{inserted}
 use Rattle.bitset.specs.Rows.{row, patched}
 use Rattle.bitset.proofs.RowLaws.{length-row, getD-row, length-patched, set-row}
 use Rattle.format.specs.Heads.{endAt}
-use Rattle.sheet.specs.Decode.{SlotKind, offsetOf, slotOf, recordsFrom}
+use Rattle.sheet.specs.Decode.{SlotKind, offsetOf, slotOf, recordsFrom, isHost}
 use Rattle.sheet.proofs.WalkLaws.{offset-add}
-use Rattle.instructions.specs.Slots.{isHost, SlotsStand, SlotStands}
+use Rattle.instructions.specs.Slots.{SlotsStand, SlotStands}
 use Rattle.instructions.specs.Sets.{insertedHosts, hostBits}
 use Rattle.instructions.proofs.SetSteps.{length-hosts, replaced, Hosted, offset-next}
 use Rattle.instructions.proofs.SetMembers.{records-count}

@@ -11,7 +11,8 @@ use lib.Seq.{getD-drop}
 use Rattle.operands.specs.Choice.{pick}
 use Rattle.operands.specs.Places.{absent, gathered}
 use Rattle.operands.specs.Patterns.{D, S, Sopt, Dopt, T, roleAt, fixedAt, listAt, fits}
-use Rattle.operands.specs.Operands.{placesFrom, singles, inputsOf}
+use Rattle.operands.specs.Operands.{inputsOf}
+use Rattle.operands.specs.ByPattern.{placesFrom, singles}
 use Rattle.operands.specs.Instructions.{singleValues}
 use Rattle.operands.proofs.PatternLaws.{role-late}
 use Rattle.operands.proofs.PlaceLaws.{singles-more}

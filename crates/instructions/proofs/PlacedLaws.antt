@@ -10,18 +10,19 @@ use lib.ListN.{length, getD}
 use Rattle.operands.specs.Patterns.{wordOf}
 use Rattle.operands.specs.declared.pattern.Pattern.{Pattern}
 use Rattle.format.specs.declared.types.Typed.the-variants.{Got, BadType}
-use Rattle.format.specs.Types.{Ty, inlineHost, Read, got, unfit, typedOf, typeAt, wholeType}
+use Rattle.format.specs.Types.{Ty, inlineHost, Read, got, unfit, typeAt, wholeType}
+use Rattle.format.specs.Answers.{typedOf}
 use Rattle.format.specs.Heads.{u16At, kindAt, endAt}
 use Rattle.format.proofs.HeadLaws.{lies}
 use Rattle.format.proofs.TypeLaws.{cut, no-type, whole-deep}
 use Rattle.records.specs.Records.{plainSlot}
 use Rattle.records.proofs.PlainLaws.{plain, byte-type}
-use Rattle.sheet.specs.Decode.{typeIn, slotOf}
+use Rattle.sheet.specs.Decode.{typeIn, slotOf, isHost}
 use Rattle.instructions.specs.declared.placed.Placed.{Placed}
 use Rattle.instructions.specs.declared.slot.SlotRecord.{SlotRecord}
 use Rattle.instructions.specs.Placed.{placedAt}
 use Rattle.instructions.specs.declared.slot.HostSlot.{HostSlot}
-use Rattle.instructions.specs.Slots.{isHost, SlotStands, slotRecordAt, hostRecord, hostSlotAt}
+use Rattle.instructions.specs.Slots.{SlotStands, slotRecordAt, hostRecord, hostSlotAt}
 
 -- what `instruction_at` makes is the instruction there
 pub placed-made : (s : List ℕ) (at n : ℕ) (p : Pattern) → n ≡ u16At s at → p ≡ record { kind = kindAt s at; word = wordOf (kindAt s at) }

@@ -9,12 +9,12 @@ use lib.Dec.{eqb}
 use lib.ListN.{length, getD, replicate, length-replicate}
 use Rattle.operands.specs.Choice.{pick}
 use Rattle.operands.specs.Patterns.{among}
-use Rattle.bitset.specs.Sets.{member, inserted}
+use Rattle.bitset.specs.Sets.{member}
+use Rattle.bitset.specs.Operations.{inserted}
 use Rattle.bitset.proofs.SetLaws.{same-either-way, length-inserted, member-inserted, member-zero}
 use Rattle.format.specs.Types.{absent}
-use Rattle.sheet.specs.Decode.{SlotKind, Parts, partsOf, recordsFrom}
+use Rattle.sheet.specs.Decode.{SlotKind, Parts, partsOf, recordsFrom, isHost}
 use Rattle.sheet.specs.declared.script.Script.{Script}
-use Rattle.instructions.specs.Slots.{isHost}
 use Rattle.bitset.specs.Below.{AllBelow}
 use Rattle.instructions.specs.Sets.{insertedAll, insertedHosts, parameterRow, hostRow, isParameter, isHostSlot}
 use Rattle.instructions.specs.Sound.{Sound}

@@ -12,14 +12,13 @@ use lib.ListN.{length, getD, replicate, length-replicate}
 use lib.Seq.{ext-getD}
 use Rattle.operands.specs.Choice.{pick}
 use Rattle.operands.specs.Bytes.{u32At, numbersAt}
-use Rattle.bitset.specs.Sets.{inserted}
+use Rattle.bitset.specs.Operations.{inserted}
 use Rattle.bitset.specs.Rows.{row, patched, insertedAt}
 use Rattle.bitset.proofs.Digits.{mask}
 use Rattle.bitset.proofs.SetLaws.{length-inserted}
 use Rattle.bitset.proofs.RowLaws.{length-row, length-patched, patched-before, patched-in, patched-after, patched-self, row-same, inserted-row}
 use Rattle.format.specs.Heads.{endAt}
-use Rattle.sheet.specs.Decode.{SlotKind, offsetOf, slotOf, recordsFrom}
-use Rattle.instructions.specs.Slots.{isHost}
+use Rattle.sheet.specs.Decode.{SlotKind, offsetOf, slotOf, recordsFrom, isHost}
 use Rattle.instructions.specs.Sets.{insertedAll, insertedHosts}
 
 -- the length stays

@@ -3,7 +3,7 @@ use mathlib.Core.Path.{_≡_, refl, ap, sym, subst, _∙_}
 use mathlib.Core.Bool.{Bool, true, false}
 use mathlib.Core.List.{List, []}
 use mathlib.Core.Option.{none, some}
-use Prim.Native.Nat.{ℕ, zero, suc, _+_, _-_, _/_, _≤_, _<_}
+use Prim.Native.Nat.{ℕ, zero, suc, _+_, _/_, _≤_, _<_}
 use native.Mathlib.Omega.{arith}
 use lib.ListN.{length, getD}
 use Rattle.operands.specs.Places.{gathered, absent}
@@ -11,7 +11,8 @@ use Rattle.operands.specs.Choice.{pick}
 use Rattle.operands.specs.Kinds.{isAwait}
 use Rattle.operands.specs.Bytes.{numbersAt}
 use Rattle.operands.specs.Patterns.{D, Dopt, roleAt, fits}
-use Rattle.operands.specs.Operands.{singles, inputsOf, outputOf, targetsOf}
+use Rattle.operands.specs.Operands.{inputsOf, outputOf, targetsOf}
+use Rattle.operands.specs.ByPattern.{singles}
 use Rattle.operands.specs.Instructions.{Readable, valuesOf, valueOf}
 use Rattle.operands.specs.declared.instruction.Instruction.{Instruction}
 use Rattle.operands.proofs.InstructionLaws.{values-count, view-output, view-targets}
@@ -37,7 +38,8 @@ use Rattle.sheet.specs.Decode.{
   decode,
 }
 use Rattle.sheet.specs.declared.script.Checked.{Checked}
-use Rattle.sheet.specs.Checks.{awaitsIn, scriptOf, checkedOf, Checks}
+use Rattle.sheet.specs.Checks.{Checks}
+use Rattle.sheet.specs.Scripts.{awaitsIn, scriptOf, checkedOf}
 use Rattle.sheet.proofs.Checked.{clean, each-none, sized, offset-up, passed}
 use Rattle.sheet.proofs.WordLaws.{few-words, behind-words}
 use Rattle.instructions.specs.Placed.{placedAt}

@@ -1,16 +1,15 @@
 -- The sets of parameters and of host slots, in words.
 use mathlib.Core.Bool.{Bool}
 use mathlib.Core.List.{List, [], _∷_}
-use Prim.Native.Nat.{ℕ, _+_, _%_, _^_, _<_}
+use Prim.Native.Nat.{ℕ, _+_, _%_, _^_}
 use lib.Bits.{bitOr}
 use lib.ListN.{getD, replicate}
 use Rattle.operands.specs.Choice.{pick}
 use Rattle.operands.specs.Patterns.{among}
-use Rattle.bitset.specs.Sets.{inserted}
+use Rattle.bitset.specs.Operations.{inserted}
 use Rattle.format.specs.Types.{absent}
-use Rattle.sheet.specs.Decode.{SlotKind, Parts, slotOf, recordsFrom, offsetOf}
+use Rattle.sheet.specs.Decode.{SlotKind, Parts, slotOf, recordsFrom, offsetOf, isHost}
 use Rattle.instructions.specs.declared.sets.HostWord.{HostWord}
-use Rattle.instructions.specs.Slots.{isHost}
 
 -- a set with these slots put in
 unfoldable pub insertedAll : List ℕ → List ℕ → List ℕ

@@ -1,4 +1,4 @@
--- A slot where its record stands, and which slots are host slots.
+-- A slot where its record stands, and whether it is a host slot.
 use mathlib.Core.Path.{_≡_}
 use mathlib.Core.Bool.{Bool, false, _||_}
 use mathlib.Core.List.{List}
@@ -6,13 +6,9 @@ use Prim.Native.Nat.{ℕ, _+_, _<_}
 use lib.Dec.{eqb}
 use Rattle.format.specs.Heads.{short, endAt}
 use Rattle.format.specs.Types.{inlineHost}
-use Rattle.sheet.specs.Decode.{SlotKind, slotOf, offsetOf}
+use Rattle.sheet.specs.Decode.{isHost, slotOf, offsetOf}
 use Rattle.instructions.specs.declared.slot.SlotRecord.{SlotRecord}
 use Rattle.instructions.specs.declared.slot.HostSlot.{HostSlot}
-
--- document 01, module 6: a host slot has physical 10, or a type that `inline_host` accepts
-unfoldable pub isHost : SlotKind → Bool
-isHost k = eqb (k .physical) 10 || inlineHost (k .type)
 
 -- a slot record stands at an offset
 pub record SlotStands (s : List ℕ) (at : ℕ) : Type 0 where

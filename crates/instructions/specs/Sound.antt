@@ -11,10 +11,10 @@ use Rattle.operands.specs.Operands.{inputsOf, outputOf, targetsOf}
 use Rattle.operands.specs.Instructions.{Readable, valuesOf}
 use Rattle.operands.specs.declared.instruction.Instruction.{Instruction}
 use Rattle.sheet.specs.declared.script.Script.{Script}
-use Rattle.sheet.specs.Decode.{SlotKind, slotOf, instructionOf, recordsFrom, offsetOf, partsOf, parts, decode}
-use Rattle.sheet.specs.Checks.{awaitsIn}
+use Rattle.sheet.specs.Decode.{SlotKind, slotOf, instructionOf, recordsFrom, offsetOf, partsOf, parts, decode, isHost}
+use Rattle.sheet.specs.Scripts.{awaitsIn}
 use Rattle.instructions.specs.Placed.{Stands, placedAt}
-use Rattle.instructions.specs.Slots.{isHost, SlotsStand}
+use Rattle.instructions.specs.Slots.{SlotsStand}
 use Rattle.bitset.specs.Below.{AllBelow}
 
 -- where the k-th instruction record stands, and its instruction

@@ -11,7 +11,7 @@ use Rattle.dataflow.specs.Charges.{costAt}
 use Rattle.dataflow.proofs.Leaders.{block-range, block-place}
 use Rattle.memory.specs.Cells.{Mem, word}
 use Rattle.memory.specs.Names.{costCell, startCell, endCell, successorCountCell, successorCell}
-use Rattle.memory.specs.declared.layout.Layout.{Layout}
+use Rattle.sizes.specs.declared.Layout.{Layout}
 use Rattle.edges.proofs.FlowLaws.{Still}
 use Rattle.blocks.specs.Blocks.{Block}
 use Rattle.blocks.proofs.KeptLaws.{words-cells, block-kept}

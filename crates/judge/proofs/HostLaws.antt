@@ -10,12 +10,11 @@ use lib.ListN.{length, replicate, length-replicate, List·getD-eq-default}
 use Rattle.format.specs.Types.{absent}
 use Rattle.memory.specs.Cells.{Mem, cell, storeCell}
 use Rattle.memory.specs.Names.{hostsRow}
-use Rattle.memory.specs.declared.layout.Layout.{Layout}
+use Rattle.sizes.specs.declared.Layout.{Layout}
 use Rattle.memory.specs.Scratch.{scratch, Row}
 use Rattle.memory.proofs.CellLaws.{cell-store-other}
 use Rattle.sheet.specs.declared.script.Script.{Script}
-use Rattle.sheet.specs.Decode.{Parts, partsOf}
-use Rattle.instructions.specs.Slots.{isHost}
+use Rattle.sheet.specs.Decode.{Parts, partsOf, isHost}
 use Rattle.instructions.specs.Sets.{hostRow, isHostSlot}
 use Rattle.instructions.specs.Sound.{Sound}
 use Rattle.instructions.proofs.SetSteps.{length-hosts}

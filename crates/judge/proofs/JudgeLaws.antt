@@ -1,13 +1,13 @@
 -- `judge`: what its calls ask for, and what it does by what they do. Assumes nothing.
 use mathlib.Core.Path.{_≡_, refl, sym, ap, subst, fun-ext, _∙_}
 use mathlib.Core.Bool.{Bool, true}
-use mathlib.Core.List.{List, _∷_, _++_}
+use mathlib.Core.List.{List}
 use Prim.Native.Nat.{ℕ, _+_, _*_, _-_, _/_, _^_, _≤_, _<_}
 use native.Mathlib.Omega.{arith}
 use borrow.Author.Tests.{lt-ltb, le-ltb}
 use lib.ListN.{length}
 use Rattle.dataflow.specs.Lists.{pick}
-use Rattle.dataflow.specs.Charges.{leaderCharges, operandCharges, reachabilityCharges}
+use Rattle.dataflow.specs.Charges.{countingCharges, buildingCharges}
 use Rattle.dataflow.specs.Results.{blockCount}
 use Rattle.budget.specs.declared.FlowBudget.{FlowBudget}
 use Rattle.budget.specs.declared.Limits.{Limits}
@@ -16,20 +16,22 @@ use Rattle.budget.specs.declared.Charged.the-variants as charging
 use Rattle.budget.specs.Budget.{charged}
 use Rattle.format.specs.declared.refusal.Refusal.{Refusal}
 use Rattle.format.specs.declared.refusal.Refusal.the-variants.{NoRoom}
-use Rattle.memory.specs.declared.layout.Layout.{Layout}
+use Rattle.sizes.specs.declared.Layout.{Layout}
 use Rattle.memory.specs.Scratch.{scratch, Room}
 use Rattle.memory.specs.Sets.{sets, SetsRoom}
 use Rattle.sheet.specs.declared.script.Script.{Script}
 use Rattle.sheet.specs.Decode.{partsOf}
 use Rattle.script.specs.Script.{flowCode}
 use Rattle.instructions.specs.Sound.{Sound}
-use Rattle.rooms.specs.declared.Lent.{Lent}
-use Rattle.rooms.specs.declared.Staged.{Staged}
-use Rattle.rooms.specs.declared.Staged.the-variants as staging
-use Rattle.rooms.specs.Rooms.{layoutOf, roomsOf, ifMet, Indexes}
-use Rattle.rooms.proofs.RoomLaws.{rooms-yes}
+use Rattle.sizes.specs.declared.Lent.{Lent}
+use Rattle.sizes.specs.declared.Staged.{Staged}
+use Rattle.sizes.specs.declared.Staged.the-variants as staging
+use Rattle.rooms.specs.Rooms.{Indexes}
+use Rattle.sizes.specs.Stages.{roomsOf, ifMet, ifOk, stage, graphOf}
+use Rattle.sizes.specs.Sizes.{layoutOf}
+use Rattle.sizes.proofs.StageLaws.{rooms-yes}
 use Rattle.reads.specs.Reads.{heldSet}
-use Rattle.graph.specs.Graph.{ifOk, stage, graphOf, Graphed}
+use Rattle.graph.specs.Graph.{Graphed}
 use Rattle.graph.proofs.GraphLaws.{staged-met}
 use Rattle.outcome.specs.Outcome.{lengthsWith, Outcome, refused, afterGraph, judged}
 use Rattle.judge.specs.declared.Judged.{Judged}
@@ -51,15 +53,15 @@ stage-layout l cs y (staging.Ok z b) y′ left h e = h z b refl ∙ staged-met (
 stage-layout l cs y (staging.Refused n b) y′ left h e = let o : _≡_ {A = ℕ} 0 1 = cc in absurd (omega arith)
 
 graph-layout : (s : List ℕ) (x : Script) (l : Limits) (lent : Lent) (n : ℕ) (b : FlowBudget) (y : Layout) (left : FlowBudget)
-    → graphOf s x l lent n b ≡ staging.Ok y left → layoutOf x (blockCount (flowCode (partsOf s))) ≡ y
+    → graphOf (flowCode (partsOf s)) x l lent n b ≡ staging.Ok y left → layoutOf x (blockCount (flowCode (partsOf s))) ≡ y
 unfolding graphOf
 graph-layout s x l lent n b y left e =
-    stage-layout l (operandCharges (flowCode (partsOf s)) ++ reachabilityCharges (flowCode (partsOf s)))
+    stage-layout l (buildingCharges (flowCode (partsOf s)))
     (layoutOf x (blockCount (flowCode (partsOf s))))
-    (ifMet (charged l b (0 ∷ leaderCharges (flowCode (partsOf s)))) (roomsOf l (layoutOf x (blockCount (flowCode (partsOf s)))) n lent))
+    (ifMet (charged l b (countingCharges (flowCode (partsOf s)))) (roomsOf l (layoutOf x (blockCount (flowCode (partsOf s)))) n lent))
     y left
     (λ z d q. rooms-layout l (layoutOf x (blockCount (flowCode (partsOf s)))) n lent
-    (charged l b (0 ∷ leaderCharges (flowCode (partsOf s)))) z d q) e
+    (charged l b (countingCharges (flowCode (partsOf s)))) z d q) e
 
 -- ---- `judge`
 
@@ -67,7 +69,7 @@ module _ (s : List ℕ) (parameter : ℕ → Bool) (x : Script) (l : Limits) (re
   -- the answer by whether too little scratch is lent
   abbrev answer-if : Bool → Outcome
   answer-if t =
-      pick t (refused NoRoom (x .id) b) (afterGraph s parameter x l (graphOf s x l (record { sets = length v; records = records }) (length w) b))
+      pick t (refused NoRoom (x .id) b) (afterGraph s parameter x l (graphOf (flowCode (partsOf s)) x l (record { sets = length v; records = records }) (length w) b))
 
   -- too little is lent
   pub judges-short : (w′ v′ : List ℕ) → length w < 4 * x .count → Judges s parameter x l records b w w′ v v′ (Refused NoRoom b)

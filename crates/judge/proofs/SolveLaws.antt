@@ -13,7 +13,7 @@ use Rattle.budget.specs.Budget.{charged, budgetOf}
 use Rattle.format.specs.declared.refusal.Refusal.the-variants.{WorkLimit}
 use Rattle.memory.specs.Cells.{Mem}
 use Rattle.memory.specs.Names.{offsetCell, parametersRow}
-use Rattle.memory.specs.declared.layout.Layout.{Layout}
+use Rattle.sizes.specs.declared.Layout.{Layout}
 use Rattle.memory.specs.Scratch.{scratch, Room}
 use Rattle.memory.specs.Sets.{SetsRoom}
 use Rattle.memory.proofs.CellLaws.{same-word}
@@ -24,8 +24,10 @@ use Rattle.script.specs.Script.{flowCode}
 use Rattle.script.proofs.ScriptLaws.{code-length}
 use Rattle.edges.proofs.FlowLaws.{Still, still-then, flows-still}
 use Rattle.blocks.specs.Blocks.{Block}
-use Rattle.outcome.proofs.ScriptedLaws.{scripted}
-use Rattle.fixed_points.specs.FixedPoints.{Scripted, fixedPointsCharges, Fixed}
+use Rattle.starts.proofs.ScriptedLaws.{scripted}
+use Rattle.fixed_points.specs.FixedPoints.{Fixed}
+use Rattle.dataflow.specs.Checked.{Scripted}
+use Rattle.dataflow.specs.Charges.{fixedPointsCharges}
 use Rattle.fixed_points.specs.Stages.{Flowing}
 use Rattle.fixed_points.proofs.Gathered.{fixed-still}
 use Rattle.verdict.specs.Points.{points}

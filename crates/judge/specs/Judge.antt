@@ -10,20 +10,21 @@ use Rattle.budget.specs.Budget.{charged}
 use Rattle.format.specs.declared.refusal.Refusal.the-variants.{NoRoom}
 use Rattle.memory.specs.Cells.{Mem, cell}
 use Rattle.memory.specs.Names.{hostsRow}
-use Rattle.memory.specs.declared.layout.Layout.{Layout}
+use Rattle.sizes.specs.declared.Layout.{Layout}
 use Rattle.memory.specs.Scratch.{scratch, Room}
 use Rattle.memory.specs.Sets.{sets, SetsRoom}
 use Rattle.sheet.specs.declared.script.Script.{Script}
 use Rattle.sheet.specs.Decode.{partsOf}
 use Rattle.script.specs.Script.{flowCode, hostIn}
-use Rattle.rooms.specs.declared.Lent.{Lent}
-use Rattle.rooms.specs.declared.Staged.{Staged}
-use Rattle.rooms.specs.declared.Staged.the-variants as staging
+use Rattle.sizes.specs.declared.Lent.{Lent}
+use Rattle.sizes.specs.declared.Staged.{Staged}
+use Rattle.sizes.specs.declared.Staged.the-variants as staging
 use Rattle.instructions.specs.Sound.{Sound}
 use Rattle.leaders.specs.Index.{Fits}
 use Rattle.blocks.specs.Blocks.{Block}
 use Rattle.edges.specs.Flow.{Flows, Fresh}
-use Rattle.fixed_points.specs.FixedPoints.{Sets, fixedPointsCharges}
+use Rattle.fixed_points.specs.FixedPoints.{Sets}
+use Rattle.dataflow.specs.Charges.{fixedPointsCharges}
 use Rattle.graph.specs.Graph.{Holding}
 use Rattle.answer.specs.Words.{Means}
 use Rattle.verdict.specs.Points.{points}

@@ -5,9 +5,10 @@ use budget::FlowBudget;
 use budget::Limits;
 use format::refusal::Refusal;
 use instructions::sets;
-use memory::layout::Layout;
-use rooms::Staged;
+use memory::layout;
 use sheet::script::Script;
+use sizes::Layout;
+use sizes::Staged;
 ghost use mathlib.Core.Path.{_≡_};
 ghost use Prim.Native.Nat.{_*_, _-_, _^_, _≤_, _<_};
 ghost use lib.ListN.{length};
@@ -93,7 +94,7 @@ fn hosts(sheet: &[u8], s: &mut [u64], script: Script, y: Layout)
     requires { ⌜ Room y (length (now s)) × (Sound (now sheet) script) × (script .slots ≤ 64 * y .words) ⌝ }
     ensures { λ _. ⌜ scratch y (now (s .exit)) ≡ storeCell (scratch y (now (s .entry))) (hostsRow (y .blocks)) (hostRow (partsOf (now (sheet .entry))) (y .words)) ⌝ }
 {
-    let base = y.scratch_start(y.hosts());
+    let base = layout::scratch_start(y, layout::hosts(y));
     let w = y.words;
     sets::insert_hosts(sheet, script, s, base, w);
 }

@@ -6,12 +6,12 @@ use Prim.Native.Nat.{ℕ, zero, suc, _+_, _≤_, _<_}
 use native.Mathlib.Omega.{arith}
 use lib.Dec.{eqb}
 use lib.ListN.{length}
-use Rattle.dataflow.specs.Lists.{pick, range, keep}
+use Rattle.dataflow.specs.Lists.{pick, range, keep, flag}
 use Rattle.dataflow.specs.Code.{leader, leaders}
 use Rattle.dataflow.specs.Results.{blockCount}
 use Rattle.dataflow.proofs.Leaders.{leaders-are, leaders-count}
 use Rattle.memory.specs.Cells.{Mem, cell}
-use Rattle.memory.specs.Names.{blockOfCell, flag}
+use Rattle.memory.specs.Names.{blockOfCell}
 use Rattle.sheet.specs.declared.script.Script.{Script}
 use Rattle.sheet.specs.Decode.{partsOf}
 use Rattle.instructions.specs.Sound.{Sound}

@@ -15,7 +15,7 @@ use Rattle.dataflow.proofs.Leaders.{leaders-are, leaders-count}
 use Rattle.dataflow.proofs.Lists.{getD-tabulate, keep-few, range-length}
 use Rattle.memory.specs.Cells.{Mem, cell, word}
 use Rattle.memory.specs.Names.{blockOfCell, leaderCell, offsetCell, startCell}
-use Rattle.memory.specs.declared.layout.Layout.{Layout}
+use Rattle.sizes.specs.declared.Layout.{Layout}
 use Rattle.memory.specs.Scratch.{scratch}
 use Rattle.memory.proofs.CellLaws.{same-word}
 use Rattle.memory.proofs.ScratchLaws.{grown}

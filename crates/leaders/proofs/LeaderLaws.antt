@@ -1,5 +1,4 @@
 -- The marks are the leaders. Assumes nothing.
-use mathlib.Core.Logic.{_≢_}
 use mathlib.Core.Path.{_≡_, refl, sym, ap, subst, _∙_}
 use mathlib.Core.Bool.{Bool, true, false, _&&_, _||_, or-false, or-true, false≢true}
 use mathlib.Core.List.{List, [], _∷_, List·Memᴰ}
@@ -10,7 +9,7 @@ use native.Mathlib.Omega.{arith}
 use lib.Dec.{eqb}
 use lib.ListN.{getD, replicate, length-replicate, getD-replicate}
 use borrow.Author.Tests.{eq-eqb, ne-eqb, eqb-true}
-use Rattle.dataflow.specs.Lists.{range, some, elem}
+use Rattle.dataflow.specs.Lists.{range, some, elem, flag}
 use Rattle.dataflow.specs.Code.{Instruction, outside, instructionAt, leader}
 use Rattle.dataflow.proofs.Bools.{and-left, and-right, same-truth}
 use Rattle.dataflow.proofs.Lists.{some-at, some-to, mem-range, range-bounds, mem-getD, mem-place}
@@ -18,7 +17,7 @@ use Rattle.operands.specs.Kinds.{endsBlock}
 use Rattle.operands.specs.Operands.{targetsOf}
 use Rattle.operands.specs.Instructions.{valuesOf, Readable}
 use Rattle.memory.specs.Cells.{Mem, cell, word, store, storeCell}
-use Rattle.memory.specs.Names.{blockOfCell, flag, offsetCell}
+use Rattle.memory.specs.Names.{blockOfCell, offsetCell}
 use Rattle.memory.specs.Scratch.{scratchWidths}
 use Rattle.memory.proofs.CellLaws.{Sized, same-word, sized-store, sized-cell, cell-store-other, word-cell-same, word-cell-other, word-store-other}
 use Rattle.memory.proofs.ScratchLaws.{word-put, place-instructions, width-instructions, sized-among}

@@ -3,7 +3,7 @@ use mathlib.Core.Logic.{_≢_}
 use mathlib.Core.Path.{_≡_, refl, sym, ap, _∙_}
 use mathlib.Core.Bool.{Bool, true, false, _&&_, _||_, or-false, or-assoc}
 use mathlib.Core.List.{List, [], _∷_, _++_}
-use Prim.Native.Nat.{ℕ, zero, suc, _+_, _≤_, _<_}
+use Prim.Native.Nat.{ℕ, suc, _+_, _≤_, _<_}
 use native.Mathlib.Decide.{ℕ-discrete, decLt}
 use native.Mathlib.Numerals.{add-one}
 use native.Mathlib.Omega.{arith}
@@ -11,13 +11,13 @@ use lib.Dec.{eqb, ltb}
 use lib.ListN.{length, getD, drop, drop-of-length-le}
 use lib.Seq.{drop-cons}
 use borrow.Author.Tests.{eq-eqb, ne-eqb, lt-ltb, le-ltb}
-use Rattle.dataflow.specs.Lists.{pick, range, some, elem}
+use Rattle.dataflow.specs.Lists.{pick, range, some, elem, flag}
 use Rattle.dataflow.specs.Code.{Instruction}
 use Rattle.dataflow.proofs.Lists.{range-snoc}
 use Rattle.memory.specs.Cells.{Mem, cell, word, store}
-use Rattle.memory.specs.Names.{blockOfCell, flag}
+use Rattle.memory.specs.Names.{blockOfCell}
 use Rattle.memory.specs.Scratch.{scratchWidths}
-use Rattle.memory.specs.declared.layout.Layout.{Layout}
+use Rattle.sizes.specs.declared.Layout.{Layout}
 use Rattle.memory.proofs.CellLaws.{Sized, sized-store, cell-store-other, word-store-other}
 use Rattle.memory.proofs.ScratchLaws.{word-put, place-instructions}
 use Rattle.bitset.specs.Below.{AllBelow}

@@ -9,7 +9,7 @@ use Rattle.dataflow.specs.Code.{leader, leaders, indexOf}
 use Rattle.dataflow.specs.Results.{blockCount}
 use Rattle.memory.specs.Cells.{Mem, word}
 use Rattle.memory.specs.Names.{blockOfCell, leaderCell, offsetCell}
-use Rattle.memory.specs.declared.layout.Layout.{Layout}
+use Rattle.sizes.specs.declared.Layout.{Layout}
 use Rattle.sheet.specs.declared.script.Script.{Script}
 use Rattle.sheet.specs.Decode.{partsOf}
 use Rattle.instructions.specs.Sound.{codeOffset}

@@ -5,11 +5,11 @@ use mathlib.Core.List.{List, [], _∷_}
 use Prim.Native.Nat.{ℕ, suc, _+_, _<_}
 use lib.Dec.{eqb, ltb}
 use lib.ListN.{replicate}
-use Rattle.dataflow.specs.Lists.{pick, range, some, elem}
+use Rattle.dataflow.specs.Lists.{pick, range, some, elem, flag}
 use Rattle.dataflow.specs.Code.{Instruction, instructionAt, leader}
 use Rattle.memory.specs.Cells.{Mem, cell, word, store}
-use Rattle.memory.specs.Names.{blockOfCell, flag, offsetCell}
-use Rattle.memory.specs.declared.layout.Layout.{Layout}
+use Rattle.memory.specs.Names.{blockOfCell, offsetCell}
+use Rattle.sizes.specs.declared.Layout.{Layout}
 use Rattle.budget.specs.declared.FlowBudget.{FlowBudget}
 use Rattle.budget.specs.declared.Limits.{Limits}
 use Rattle.budget.specs.declared.Charged.{Charged}

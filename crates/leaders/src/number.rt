@@ -1,6 +1,6 @@
 // Numbers the blocks: the block of a target is then looked up in the target's own word.
 use memory::layout;
-use memory::layout::Layout;
+use sizes::Layout;
 ghost use mathlib.Core.Path.{_≡_};
 ghost use mathlib.Core.Bool.{true};
 ghost use Prim.Native.Nat.{_<_, _≤_};

@@ -8,7 +8,8 @@ use native.Mathlib.Omega.{arith}
 use lib.Bits.{bitAnd, bitOr}
 use lib.ListN.{length, take, drop, getD, set, replicate, length-set, length-replicate}
 use lib.Seq.{take-suc-set, drop-set-lt}
-use Rattle.bitset.specs.Sets.{ones, member, inserted, removed, zipped, join, difference}
+use Rattle.bitset.specs.Sets.{ones, member}
+use Rattle.bitset.specs.Operations.{inserted, removed, zipped, join, difference}
 use Rattle.bitset.specs.Rows.{row, patched, insertedAt, removedAt, Apart}
 use Rattle.bitset.proofs.SetLaws.{length-inserted, length-removed, length-zipped}
 use Rattle.bitset.proofs.RowLaws.{length-row, getD-row, set-row, member-row, inserted-row, removed-row}

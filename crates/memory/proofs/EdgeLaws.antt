@@ -1,8 +1,8 @@
 -- The edges of a block stay where their cells stay, and are walked one by one; the name of an edge tells its source and its place. Assumes nothing.
-use mathlib.Core.Path.{_≡_, refl, sym, ap, ap₂, _∙_}
+use mathlib.Core.Path.{_≡_, refl, ap, ap₂, _∙_}
 use mathlib.Core.Bool.{true}
 use mathlib.Core.List.{List, [], _∷_, map}
-use Prim.Native.Nat.{ℕ, zero, suc, _+_, _-_, _*_, _/_, _%_, _≤_, _<_}
+use Prim.Native.Nat.{ℕ, zero, suc, _+_, _-_, _≤_, _<_}
 use native.Mathlib.Numerals.{add-one}
 use native.Mathlib.Omega.{arith}
 use borrow.Author.Tests.{lt-ltb, le-ltb}
@@ -10,7 +10,7 @@ use lib.Dec.{ltb}
 use lib.ListN.{getD}
 use Rattle.bitset.specs.Below.{AllBelow}
 use Rattle.dataflow.specs.Lists.{pick, tabulate}
-use Rattle.memory.specs.declared.layout.Layout.{Layout}
+use Rattle.sizes.specs.declared.Layout.{Layout}
 use Rattle.memory.specs.declared.edges.Side.{Side}
 use Rattle.memory.specs.declared.edges.Side.the-variants.{Successors, Predecessors}
 use Rattle.memory.specs.Cells.{Mem, cell, word, storeCell}

@@ -6,9 +6,10 @@ use native.Mathlib.Omega.{arith}
 use lib.ListN.{length, getD, set, replicate, length-replicate, getD-replicate}
 use Rattle.bitset.specs.Sets.{Words}
 use Rattle.bitset.specs.Rows.{row}
-use Rattle.memory.specs.declared.layout.Layout.{Layout}
+use Rattle.sizes.specs.declared.Layout.{Layout}
 use Rattle.memory.specs.Cells.{Mem, total, cell, word, store}
-use Rattle.memory.specs.Scratch.{edgeWords, scratchWidths, scratchCells, scratchWords, scratch, Room, Place, Row}
+use Rattle.memory.specs.Scratch.{edgeWords, scratchWidths, scratchCells, scratch, Room, Place, Row}
+use Rattle.sizes.specs.Sizes.{scratchWords}
 use Rattle.memory.proofs.CellLaws.{start, width, cell-fits, length-cells, cell-row, cell-words, word-store-same}
 use Rattle.memory.proofs.CellLaws.{Sized, sized, total-append, total-equal, start-equal, start-in, start-past, width-in, width-past}
 use Rattle.memory.proofs.CellRows.{Lies, lies-word, lies-stored}

@@ -5,9 +5,10 @@ use Prim.Native.Nat.{ℕ, _+_, _-_, _*_, _^_, _≤_, _<_}
 use native.Mathlib.Omega.{arith}
 use lib.ListN.{length, getD, replicate, length-replicate, getD-replicate, length-append}
 use Rattle.bitset.specs.Sets.{Words}
-use Rattle.memory.specs.declared.layout.Layout.{Layout}
+use Rattle.sizes.specs.declared.Layout.{Layout}
 use Rattle.memory.specs.Cells.{total, cell}
-use Rattle.memory.specs.Sets.{setsWidths, setsWords, sets, SetsRoom, SetsRow, AwaitEntry}
+use Rattle.memory.specs.Sets.{setsWidths, sets, SetsRoom, SetsRow, AwaitEntry}
+use Rattle.sizes.specs.Sizes.{setsWords}
 use Rattle.memory.proofs.CellLaws.{start, width, cell-fits, length-cells, cell-words, Sized, sized}
 use Rattle.memory.proofs.CellLaws.{total-append, total-equal, start-equal, start-in, start-past, width-in, width-past}
 use Rattle.memory.proofs.CellRows.{Lies}

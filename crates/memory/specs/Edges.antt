@@ -5,7 +5,7 @@ use Prim.Native.Nat.{ℕ, zero, suc, _+_, _-_, _*_, _/_, _%_, _≤_, _<_}
 use lib.Dec.{ltb}
 use Rattle.bitset.specs.Below.{AllBelow}
 use Rattle.dataflow.specs.Lists.{pick, tabulate}
-use Rattle.memory.specs.declared.layout.Layout.{Layout}
+use Rattle.sizes.specs.declared.Layout.{Layout}
 use Rattle.memory.specs.declared.edges.Side.{Side}
 use Rattle.memory.specs.declared.edges.Side.the-variants.{Successors, Predecessors}
 use Rattle.memory.specs.Cells.{Mem, word, store}

@@ -1,5 +1,4 @@
 -- The cells of both buffers, by the names of src/layout.rt.
-use mathlib.Core.Bool.{Bool, true, false}
 use Prim.Native.Nat.{ℕ, _+_, _*_}
 
 -- a word an instruction
@@ -93,8 +92,3 @@ liveRow b = 2 * b + 1
 -- and behind the rows of n blocks the entry of the k-th await
 abbrev pub awaitEntry : ℕ → ℕ → ℕ
 awaitEntry n k = 2 * n + k
-
--- a mark as a word
-abbrev pub flag : Bool → ℕ
-flag true = 1
-flag false = 0

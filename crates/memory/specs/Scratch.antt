@@ -1,10 +1,11 @@
--- The layout of scratch: document 01's 4 × N + B × (4 × w + 16) + 4 × w words, as cells.
+-- The layout of scratch: document 01's words, as cells.
 use mathlib.Core.List.{List, _++_}
 use Prim.Native.Nat.{ℕ, _+_, _*_, _≤_, _<_}
-use lib.ListN.{getD, length, replicate}
+use lib.ListN.{getD, replicate}
 use Rattle.memory.specs.Cells.{Mem, cells}
 use Rattle.memory.specs.Names.{firstRow, startCell, successorCell}
-use Rattle.memory.specs.declared.layout.Layout.{Layout}
+use Rattle.sizes.specs.declared.Layout.{Layout}
+use Rattle.sizes.specs.Sizes.{scratchWords}
 
 -- how many edges there may be: two a block, and the extra ones
 abbrev pub edgeWords : Layout → ℕ
@@ -20,10 +21,6 @@ scratchWidths y =
 -- how many cells there are
 abbrev pub scratchCells : Layout → ℕ
 scratchCells y = 22 + 4 * y .blocks
-
--- document 01's size of scratch
-abbrev pub scratchWords : Layout → ℕ
-scratchWords y = 4 * y .instructions + y .blocks * (4 * y .words + 16) + 4 * y .words + 4 * y .extra
 
 -- the words of scratch as cells
 unfoldable pub scratch : Layout → List ℕ → Mem

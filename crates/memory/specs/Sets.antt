@@ -1,17 +1,14 @@
--- The layout of the sets buffer: document 01's B × 2 × w + A × (1 + w) words, as cells.
+-- The layout of the sets buffer: document 01's words, as cells.
 use mathlib.Core.List.{List, _++_}
 use Prim.Native.Nat.{ℕ, _+_, _*_, _≤_, _<_}
 use lib.ListN.{replicate}
 use Rattle.memory.specs.Cells.{Mem, cells}
-use Rattle.memory.specs.declared.layout.Layout.{Layout}
+use Rattle.sizes.specs.declared.Layout.{Layout}
+use Rattle.sizes.specs.Sizes.{setsWords}
 
 -- per block its initialized row and its live row; then per await its instruction and live words
 unfoldable pub setsWidths : Layout → List ℕ
 setsWidths y = replicate (2 * y .blocks) (y .words) ++ replicate (y .awaits) (1 + y .words)
-
--- document 01's size of the sets buffer
-abbrev pub setsWords : Layout → ℕ
-setsWords y = y .blocks * 2 * y .words + y .awaits * (1 + y .words)
 
 -- the words of the sets buffer as cells
 unfoldable pub sets : Layout → List ℕ → Mem

@@ -1,11 +1,11 @@
 // The edges between blocks: where those of a block lead, and which lead to it.
 use crate::layout;
-use crate::layout::Layout;
 use crate::scratch;
+use sizes::Layout;
 ghost use mathlib.Core.Path.{_≡_};
 ghost use Prim.Native.Nat.{_+_, _*_, _<_, _≤_};
 ghost use lib.ListN.{length};
-ghost use Rattle.memory.specs.Cells.{word, store};
+ghost use Rattle.memory.specs.Cells.{word};
 ghost use Rattle.memory.specs.Names.{successorCountCell};
 ghost use Rattle.memory.specs.Scratch.{scratch, edgeWords, Room};
 ghost use Rattle.memory.specs.Edges.{edgeWord, storeEdge, successorAt, edgeFrom, sourceOf, placeOf, nextEdge, storeNext, countOf};

@@ -8,7 +8,8 @@ use lib.ListN.{getD}
 use Rattle.operands.specs.Places.{gathered}
 use Rattle.operands.specs.Variants.{Variant, Unreachable, slotInputs, slotOutput, jumpTargets, variants}
 use Rattle.operands.specs.Patterns.{groups, patternIn, patternOf, roleIn, roleAt, fixedAt, listAt}
-use Rattle.operands.specs.Operands.{Roles, rolesOf, bySource, byPattern, listPlace, placesFrom, inputsOf, outputOf, targetsOf, firstOf}
+use Rattle.operands.specs.Operands.{Roles, rolesOf, bySource, inputsOf, outputOf, targetsOf, firstOf}
+use Rattle.operands.specs.ByPattern.{byPattern, listPlace, placesFrom}
 
 -- the operands of n kinds by their patterns, from kind k on
 unfoldable patterned : ℕ → ℕ → List Roles

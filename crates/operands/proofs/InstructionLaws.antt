@@ -11,7 +11,8 @@ use lib.Seq.{getD-drop}
 use Rattle.operands.specs.Choice.{pick}
 use Rattle.operands.specs.Places.{Place, rest, absent, gathered}
 use Rattle.operands.specs.Patterns.{D, S, Sopt, Dopt, T, roleAt, singleOf, fixedAt, listAt, fits}
-use Rattle.operands.specs.Operands.{listPlace, singles, byPattern, inputsOf, outputOf, targetsOf, firstOf}
+use Rattle.operands.specs.Operands.{inputsOf, outputOf, targetsOf, firstOf}
+use Rattle.operands.specs.ByPattern.{listPlace, singles, byPattern}
 use Rattle.operands.specs.Instructions.{Readable, valuesOf, nth, valueOf, singleValues, singlesFrom}
 use Rattle.operands.specs.declared.instruction.Instruction.{Instruction}
 use Rattle.operands.specs.declared.instruction.Value.the-variants.{Is}

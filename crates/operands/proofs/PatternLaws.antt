@@ -9,7 +9,7 @@ use borrow.Author.Tests.{eq-eqb, le-leb, ltb-true, ltb-false, eqb-true, leb-true
 use lib.ListN.{getD}
 use Rattle.operands.specs.Choice.{pick}
 use Rattle.operands.specs.Patterns.{D, S, Sopt, Dopt, groups, patternIn, patternOf, roleIn, roleAt, singleOf, fixedAt, listAt, fits, wordOf}
-use Rattle.operands.specs.Operands.{placesFrom}
+use Rattle.operands.specs.ByPattern.{placesFrom}
 use Rattle.operands.specs.Instructions.{Known}
 use Rattle.operands.specs.declared.pattern.Pattern.{Pattern}
 use Rattle.operands.proofs.Table.{at-kind, at-field}

@@ -9,7 +9,7 @@ use lib.ListN.{length, getD, drop, length-append, List·getD-append}
 use Rattle.operands.specs.Choice.{pick}
 use Rattle.operands.specs.Places.{Place, one, optional, rest, absent, present, gathered}
 use Rattle.operands.specs.Patterns.{roleAt}
-use Rattle.operands.specs.Operands.{singlePlace, placesFrom}
+use Rattle.operands.specs.ByPattern.{singlePlace, placesFrom}
 use Rattle.operands.specs.Instructions.{nth, singleValues, countOf}
 use Rattle.operands.specs.declared.instruction.Value.the-variants.{Is, Absent}
 

@@ -9,7 +9,7 @@ use lib.ListN.{length}
 use Rattle.operands.specs.Choice.{pick}
 use Rattle.operands.specs.Places.{present, gathered}
 use Rattle.operands.specs.Patterns.{fits, wordOf}
-use Rattle.operands.specs.Operands.{placesFrom}
+use Rattle.operands.specs.ByPattern.{placesFrom}
 use Rattle.operands.specs.Bytes.{numbersAt}
 use Rattle.operands.specs.declared.pattern.Pattern.{Pattern}
 use Rattle.operands.specs.declared.instruction.Instruction.{Instruction}

@@ -4,6 +4,7 @@ pub mod Places
 pub mod Variants
 pub mod Patterns
 pub mod Operands
+pub mod ByPattern
 pub mod Kinds
 pub mod Bytes
 pub mod Instructions

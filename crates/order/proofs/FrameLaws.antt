@@ -10,7 +10,7 @@ use Rattle.memory.specs.Cells.{Mem, cell, word}
 use Rattle.memory.specs.Frame.{Only, NoRow}
 use Rattle.memory.specs.Names.{stackBlockCell, stackEdgeCell}
 use Rattle.memory.specs.Scratch.{edgeWords}
-use Rattle.memory.specs.declared.layout.Layout.{Layout}
+use Rattle.sizes.specs.declared.Layout.{Layout}
 use Rattle.edges.specs.Edges.{Holds, Held}
 use Rattle.edges.proofs.EdgeLaws.{holds-only, edges-within}
 use Rattle.order.specs.Postorder.{searchCells}

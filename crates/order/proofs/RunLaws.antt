@@ -11,7 +11,7 @@ use Rattle.memory.specs.Cells.{Mem, cell, word}
 use Rattle.memory.specs.Frame.{Only, NoRow}
 use Rattle.memory.specs.Names.{orderCell, stackBlockCell, stackEdgeCell, visitedCell}
 use Rattle.memory.specs.Scratch.{scratchWidths}
-use Rattle.memory.specs.declared.layout.Layout.{Layout}
+use Rattle.sizes.specs.declared.Layout.{Layout}
 use Rattle.memory.proofs.CellLaws.{Sized}
 use Rattle.memory.proofs.FrameLaws.{only-none, only-then}
 use Rattle.memory.proofs.ScratchLaws.{sized-blocks}

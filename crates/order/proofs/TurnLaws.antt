@@ -14,7 +14,7 @@ use Rattle.memory.specs.Cells.{Mem, cell, word, store, storeCell}
 use Rattle.memory.specs.Frame.{Only, NoRow}
 use Rattle.memory.specs.Names.{firstRow, orderCell, stackBlockCell, stackEdgeCell, successorCell, successorCountCell, visitedCell}
 use Rattle.memory.specs.Scratch.{scratchWidths}
-use Rattle.memory.specs.declared.layout.Layout.{Layout}
+use Rattle.sizes.specs.declared.Layout.{Layout}
 use Rattle.memory.proofs.CellLaws.{Sized, sized-cell, cell-store-same, cell-store-other, same-word}
 use Rattle.memory.proofs.FrameLaws.{only-none, only-then, only-more, only-cell}
 use Rattle.memory.proofs.ScratchLaws.{sized-among, sized-blocks, width-blocks}

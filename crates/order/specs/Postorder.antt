@@ -7,7 +7,7 @@ use Rattle.dataflow.specs.Search.{Search, search, searchFrom, turns, allTurns}
 use Rattle.memory.specs.Cells.{Mem, cell}
 use Rattle.memory.specs.Frame.{Only, NoRow}
 use Rattle.memory.specs.Names.{orderCell, stackBlockCell, stackEdgeCell, visitedCell}
-use Rattle.memory.specs.declared.layout.Layout.{Layout}
+use Rattle.sizes.specs.declared.Layout.{Layout}
 use Rattle.budget.specs.declared.FlowBudget.{FlowBudget}
 use Rattle.budget.specs.declared.Limits.{Limits}
 use Rattle.budget.specs.declared.Charged.{Charged}

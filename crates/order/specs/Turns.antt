@@ -6,8 +6,9 @@ use lib.ListN.{getD, take, drop}
 use Rattle.dataflow.specs.Search.{Frame, Search, look, advance, onTop, searchFrom}
 use Rattle.memory.specs.Cells.{Mem, cell, word}
 use Rattle.memory.specs.Frame.{Only, NoRow}
-use Rattle.memory.specs.Names.{flag, orderCell, stackBlockCell, stackEdgeCell, successorCountCell, visitedCell}
-use Rattle.memory.specs.declared.layout.Layout.{Layout}
+use Rattle.memory.specs.Names.{orderCell, stackBlockCell, stackEdgeCell, successorCountCell, visitedCell}
+use Rattle.dataflow.specs.Lists.{flag}
+use Rattle.sizes.specs.declared.Layout.{Layout}
 use Rattle.budget.specs.declared.FlowBudget.{FlowBudget}
 use Rattle.budget.specs.declared.Limits.{Limits}
 use Rattle.budget.specs.declared.Charged.the-variants as charging

@@ -3,7 +3,7 @@ use budget::Charged;
 use budget::FlowBudget;
 use budget::Limits;
 use memory::layout;
-use memory::layout::Layout;
+use sizes::Layout;
 ghost use mathlib.Core.Path.{_≡_};
 ghost use Prim.Native.Nat.{_<_, _≤_};
 ghost use lib.ListN.{length, replicate};

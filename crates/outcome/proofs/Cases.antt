@@ -17,15 +17,13 @@ use Rattle.format.specs.Heads.{fieldsAt, short}
 use Rattle.format.specs.Types.{itemsAt, leaf, typeAt, wholeType}
 use Rattle.format.specs.Fields.{badModule, noSlot, noTarget, anyField, anyAbove}
 use Rattle.records.specs.Records.{functionFault, parametersFault, badSlot, slotFault, badInstruction, instructionFault}
-use Rattle.sheet.specs.Decode.{dues, sizesFault, faultAt, firstBad, offsetOf, endFault, refusal, idOf, recordsFrom, partsOf, decode}
-use Rattle.sheet.specs.Checks.{awaitsIn, scriptOf, checkedOf}
-use Rattle.instructions.specs.Slots.{isHost}
+use Rattle.sheet.specs.Decode.{dues, sizesFault, faultAt, firstBad, offsetOf, endFault, refusal, idOf, recordsFrom, partsOf, decode, isHost}
+use Rattle.sheet.specs.Scripts.{awaitsIn, scriptOf, checkedOf}
 use Rattle.script.specs.Script.{flowCode, parameterIn, hostIn}
 use Rattle.budget.specs.declared.FlowBudget.{FlowBudget}
 use Rattle.budget.specs.Budget.{todays, charged, retained}
 use Rattle.format.specs.declared.refusal.Refusal.the-variants.{NoCode, OpenEnd, UnfilledSlot, HostOverAwait}
-use Rattle.rooms.specs.Rooms.{roomsOf}
-use Rattle.graph.specs.Graph.{graphOf}
+use Rattle.sizes.specs.Stages.{roomsOf, graphOf}
 use Rattle.verdict.specs.Points.{readsRun, awaitRun, pointRun, awaitsRun, blockRun, blocksRun, pointsRun, awaitPoints, blockPoints, points}
 use Rattle.answer.specs.Words.{numberOf, wordsFrom}
 use Rattle.outcome.specs.Outcome.{Lengths, Outcome, accepted, refused, outcomeOf}

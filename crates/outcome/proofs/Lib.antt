@@ -1,4 +1,3 @@
 -- Laws of outcomes.
-pub mod ScriptedLaws
 pub mod JoinedLaws
 pub mod Cases

@@ -3,10 +3,9 @@ use mathlib.Core.Bool.{Bool}
 use mathlib.Core.List.{List, [], _∷_, _++_}
 use Prim.Native.Nat.{ℕ, suc, _+_, _*_, _-_, _/_}
 use lib.ListN.{length, getD, replicate}
-use Rattle.dataflow.specs.Lists.{range}
+use Rattle.dataflow.specs.Lists.{range, flag}
 use Rattle.dataflow.specs.Code.{Instruction, leaders, blockSuccessors}
 use Rattle.dataflow.specs.Results.{reachable, initExit, liveEntry}
-use Rattle.memory.specs.Names.{flag}
 use Rattle.sheet.specs.Decode.{partsOf}
 use Rattle.script.specs.Script.{flowCode}
 use Rattle.verdict.specs.Points.{Point, points}
@@ -22,10 +21,14 @@ abbrev pub joined : {A : Type 0} → (A → List ℕ) → List A → List ℕ
 joined f [] = []
 joined f (a ∷ l) = f a ++ joined f l
 
+-- whether `reachability` marks block c, as a block record says it
+abbrev pub reachableMark : List Instruction → ℕ → ℕ
+reachableMark code c = flag (reachable code c)
+
 -- document 01, a block record: start, end, reachable, successor count, two successors (unused ones 0)
 abbrev pub blockRecord : List Instruction → ℕ → List ℕ
 blockRecord code c =
-    getD (leaders code) c (length code) ∷ getD (leaders code) (suc c) (length code) ∷ flag (reachable code c) ∷ length (blockSuccessors code c)
+    getD (leaders code) c (length code) ∷ getD (leaders code) (suc c) (length code) ∷ reachableMark code c ∷ length (blockSuccessors code c)
     ∷ getD (blockSuccessors code c) 0 0 ∷ getD (blockSuccessors code c) 1 0 ∷ []
 
 module _ (code : List Instruction) (parameter : ℕ → Bool) (words : ℕ) where

@@ -13,17 +13,17 @@ use Rattle.budget.specs.declared.Charged.the-variants.{Ok, Over}
 use Rattle.budget.specs.Budget.{charged}
 use Rattle.format.specs.declared.refusal.Refusal.{Refusal}
 use Rattle.format.specs.declared.refusal.Refusal.the-variants.{NoRoom, WorkLimit}
-use Rattle.memory.specs.declared.layout.Layout.{Layout}
+use Rattle.sizes.specs.declared.Layout.{Layout}
 use Rattle.sheet.specs.declared.script.Script.{Script}
 use Rattle.sheet.specs.declared.script.Checked.{Checked}
 use Rattle.sheet.specs.declared.script.Checked.the-variants as checking
 use Rattle.sheet.specs.Decode.{partsOf}
-use Rattle.sheet.specs.Checks.{checkedOf}
+use Rattle.sheet.specs.Scripts.{checkedOf}
 use Rattle.script.specs.Script.{flowCode, hostIn}
-use Rattle.rooms.specs.declared.Staged.{Staged}
-use Rattle.rooms.specs.declared.Staged.the-variants as staging
-use Rattle.graph.specs.Graph.{graphOf}
-use Rattle.fixed_points.specs.FixedPoints.{fixedPointsCharges}
+use Rattle.sizes.specs.declared.Staged.{Staged}
+use Rattle.sizes.specs.declared.Staged.the-variants as staging
+use Rattle.sizes.specs.Stages.{graphOf}
+use Rattle.dataflow.specs.Charges.{fixedPointsCharges}
 use Rattle.verdict.specs.Points.{Checking, stop, on, pointsRun, points}
 
 -- how long the lent buffers are: words of scratch, words of sets, block records
@@ -62,7 +62,7 @@ module _ (s : List ℕ) (parameter : ℕ → Bool) (x : Script) (l : Limits) whe
   -- "then scratch below 4 × N words is 10. Then the source's steps"
   abbrev pub judged : Lengths → FlowBudget → Outcome
   judged n b = pick (ltb (n .scratch) (4 * x .count)) (refused NoRoom (x .id) b)
-      (afterGraph (graphOf s x l (record { sets = n .sets; records = n .records }) (n .scratch) b))
+      (afterGraph (graphOf (flowCode (partsOf s)) x l (record { sets = n .sets; records = n .records }) (n .scratch) b))
 
 -- the sheet checks first; "as given for 1 to 9 and the early 10"
 abbrev pub afterChecks : List ℕ → (ℕ → Bool) → Limits → Lengths → FlowBudget → Checked → Outcome

@@ -9,13 +9,14 @@ use native.Mathlib.Nat.{zero-add}
 use lib.Dec.{eqb}
 use lib.ListN.{length, getD, set, replicate, length-set, length-map}
 use lib.Seq.{getD-set-same, getD-set-other, ext-getD}
-use Rattle.bitset.specs.Sets.{ones, meet, join}
+use Rattle.bitset.specs.Sets.{ones}
+use Rattle.bitset.specs.Operations.{meet, join}
 use Rattle.dataflow.specs.Lists.{pick}
 use Rattle.dataflow.proofs.Lists.{length-tabulate, getD-tabulate}
 use Rattle.memory.specs.Cells.{Mem, cell, word, storeCell}
 use Rattle.memory.specs.Names.{reachableCell, ringCell, queuedCell, successorCell, successorCountCell, firstEdgeCell, nextEdgeCell}
 use Rattle.memory.specs.Names.{predecessorCountCell, usesRow, definesRow, stateRow, parametersRow, initializedRow}
-use Rattle.memory.specs.declared.layout.Layout.{Layout}
+use Rattle.sizes.specs.declared.Layout.{Layout}
 use Rattle.memory.proofs.CellLaws.{cell-store-same, cell-store-other}
 use Rattle.bitset.specs.Below.{AllBelow}
 use Rattle.transfer.specs.declared.direction.Direction.{Direction}

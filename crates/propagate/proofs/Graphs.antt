@@ -17,7 +17,7 @@ use Rattle.memory.specs.Cells.{Mem, word}
 use Rattle.memory.specs.Names.{successorCountCell}
 use Rattle.memory.specs.Edges.{successorAt, countOf, neighbors, Connected}
 use Rattle.memory.specs.Scratch.{edgeWords}
-use Rattle.memory.specs.declared.layout.Layout.{Layout}
+use Rattle.sizes.specs.declared.Layout.{Layout}
 use Rattle.memory.specs.declared.edges.Side.{Side}
 use Rattle.memory.specs.declared.edges.Side.the-variants.{Successors, Predecessors}
 use Rattle.edges.specs.Edges.{Holds}

@@ -9,7 +9,7 @@ use lib.ListN.{length, getD, set, take, drop, replicate, List·getD-map}
 use lib.Seq.{getD-set-same, getD-set-other, drop-cons, take-at}
 use Rattle.dataflow.specs.Lists.{sum}
 use Rattle.dataflow.specs.Search.{unvisited}
-use Rattle.memory.specs.declared.layout.Layout.{Layout}
+use Rattle.sizes.specs.declared.Layout.{Layout}
 use Rattle.edges.specs.Edges.{marked}
 use Rattle.bitset.specs.Below.{AllBelow}
 use Rattle.solver.specs.Run.{wrap}

@@ -17,7 +17,7 @@ use Rattle.memory.specs.Cells.{Mem, cell, storeCell}
 use Rattle.memory.specs.Names.{orderCell, queuedCell, reachableCell, ringCell}
 use Rattle.memory.specs.Scratch.{scratchCells, scratchWidths}
 use Rattle.memory.specs.Sets.{setsWidths}
-use Rattle.memory.specs.declared.layout.Layout.{Layout}
+use Rattle.sizes.specs.declared.Layout.{Layout}
 use Rattle.memory.proofs.CellLaws.{Sized, cell-store-same, cell-store-other}
 use Rattle.memory.proofs.ScratchLaws.{scratch-count, sized-blocks}
 use Rattle.memory.proofs.SetsLaws.{sets-count}

@@ -16,7 +16,7 @@ use Rattle.dataflow.proofs.Reachability.{unvisited-set}
 use Rattle.memory.specs.Cells.{Mem, cell, word, store, storeCell}
 use Rattle.memory.specs.Names.{queuedCell, reachableCell, ringCell, initializedRow}
 use Rattle.memory.specs.Scratch.{scratchCells}
-use Rattle.memory.specs.declared.layout.Layout.{Layout}
+use Rattle.sizes.specs.declared.Layout.{Layout}
 use Rattle.memory.proofs.CellLaws.{cell-store-same, cell-store-other}
 use Rattle.bitset.specs.Below.{AllBelow}
 use Rattle.edges.specs.Edges.{marked}

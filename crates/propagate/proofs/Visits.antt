@@ -9,7 +9,7 @@ use native.Mathlib.Nat.{zero-add, suc-add}
 use borrow.Author.Tests.{eq-eqb, ne-eqb}
 use lib.Dec.{eqb}
 use lib.ListN.{length, getD, set, replicate}
-use Rattle.bitset.specs.Sets.{same}
+use Rattle.bitset.specs.Operations.{same}
 use Rattle.dataflow.specs.Lists.{pick}
 use Rattle.dataflow.specs.Worklist as worklist
 use Rattle.dataflow.specs.Charges.{traceCharges, visitCharges}
@@ -22,7 +22,7 @@ use Rattle.budget.specs.Budget.{charged, andCharged}
 use Rattle.budget.proofs.BudgetLaws.{charged-none, charged-append}
 use Rattle.memory.specs.Cells.{Mem, cell, storeCell}
 use Rattle.memory.specs.Names.{ringCell}
-use Rattle.memory.specs.declared.layout.Layout.{Layout}
+use Rattle.sizes.specs.declared.Layout.{Layout}
 use Rattle.memory.proofs.CellLaws.{cell-store-same}
 use Rattle.transfer.specs.declared.direction.Direction.{Direction}
 use Rattle.memory.specs.Edges.{neighbors, Connected}

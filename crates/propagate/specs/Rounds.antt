@@ -5,7 +5,7 @@ use mathlib.Core.Path.{_≡_}
 use Prim.Native.Nat.{ℕ, suc, _+_, _≤_, _<_}
 use lib.Dec.{eqb}
 use lib.ListN.{getD, take}
-use Rattle.bitset.specs.Sets.{meet, join, same}
+use Rattle.bitset.specs.Operations.{meet, join, same}
 use Rattle.dataflow.specs.Lists.{pick, tabulate, sum}
 use Rattle.dataflow.specs.Worklist as worklist
 use Rattle.dataflow.specs.Charges.{traceCharges}
@@ -16,7 +16,7 @@ use Rattle.budget.specs.declared.Charged.the-variants.{Ok, Over}
 use Rattle.budget.specs.Budget.{charged}
 use Rattle.memory.specs.Cells.{Mem, cell, word}
 use Rattle.memory.specs.Names.{orderCell, queuedCell, reachableCell, ringCell}
-use Rattle.memory.specs.declared.layout.Layout.{Layout}
+use Rattle.sizes.specs.declared.Layout.{Layout}
 use Rattle.edges.specs.Edges.{marked}
 use Rattle.transfer.specs.declared.direction.Direction.{Direction}
 use Rattle.transfer.specs.declared.direction.Direction.the-variants.{Initialization, Liveness}

@@ -2,7 +2,7 @@
 use budget::Charged;
 use budget::FlowBudget;
 use budget::Limits;
-use memory::layout::Layout;
+use sizes::Layout;
 use solver::drain;
 use solver::ring::Ring;
 use solver::ring::Turn;

@@ -3,7 +3,7 @@ use mathlib.Core.List.{List}
 use Prim.Native.Nat.{ℕ}
 use Rattle.format.specs.Heads.{kindAt, endAt}
 use Rattle.records.specs.declared.record.Step.{Step}
-use Rattle.records.specs.Records.{stepOf, dueFault}
+use Rattle.records.specs.Steps.{stepOf, dueFault}
 
 abbrev pub dueStep : List ℕ → ℕ → ℕ → ℕ → ℕ → Step
 dueStep s kind slots count at = stepOf (dueFault s kind slots count at) (endAt s at) (kindAt s at)

@@ -7,13 +7,13 @@ use Prim.Native.Nat.{ℕ, zero, suc, _+_, _-_, _/_, _≤_, _<_}
 use native.Mathlib.Decide.{decLt}
 use native.Mathlib.Omega.{arith}
 use lib.ListN.{length}
-use Rattle.bitset.specs.Sets.{member, within}
+use Rattle.bitset.specs.Sets.{member}
+use Rattle.bitset.specs.Operations.{within}
 use Rattle.bitset.proofs.SetLaws.{member-past, within-member}
 use Rattle.dataflow.specs.Lists.{pick, range, elem}
 use Rattle.dataflow.specs.Analyses.{initTransfer}
 use Rattle.dataflow.specs.Blocks.{exposed}
-use Rattle.dataflow.specs.Code.{Instruction, instructionAt, program}
-use Rattle.dataflow.specs.Verdict.{awaitAt}
+use Rattle.dataflow.specs.Code.{Instruction, instructionAt, program, awaitAt}
 use Rattle.dataflow.specs.Charges.{costAt}
 use Rattle.dataflow.proofs.Blocks.{uses-exposed}
 use Rattle.dataflow.proofs.Lists.{every-to, mem-elem}
@@ -25,7 +25,7 @@ use Rattle.budget.specs.Budget.{charged, budgetOf}
 use Rattle.format.specs.declared.refusal.Refusal.the-variants.{UnfilledSlot}
 use Rattle.memory.specs.Cells.{Mem, cell}
 use Rattle.memory.specs.Names.{usesRow, stateRow}
-use Rattle.memory.specs.declared.layout.Layout.{Layout}
+use Rattle.sizes.specs.declared.Layout.{Layout}
 use Rattle.operands.specs.Kinds.{isAwait}
 use Rattle.verdict.specs.Points.{Checking, stop, on, ifPaid, readsRun}
 use Rattle.answer.specs.Words.{Means}

@@ -8,8 +8,7 @@ use lib.ListN.{length, getD}
 use Rattle.bitset.specs.Sets.{member}
 use Rattle.dataflow.specs.Lists.{pick, range, every, keep, elem}
 use Rattle.dataflow.specs.Analyses.{initTransfer}
-use Rattle.dataflow.specs.Code.{Instruction, instructionAt, program}
-use Rattle.dataflow.specs.Verdict.{awaitAt}
+use Rattle.dataflow.specs.Code.{Instruction, instructionAt, program, awaitAt}
 use Rattle.dataflow.specs.Charges.{costAt}
 use Rattle.dataflow.proofs.Bools.{not-yes, not-true}
 use Rattle.dataflow.proofs.Lists.{keep-both, every-at, every-to, mem-getD, mem-place}
@@ -21,7 +20,7 @@ use Rattle.budget.specs.Budget.{charged, budgetOf}
 use Rattle.format.specs.declared.refusal.Refusal.the-variants.{UnfilledSlot}
 use Rattle.memory.specs.Cells.{Mem, cell, word, storeCell}
 use Rattle.memory.specs.Names.{costCell, offsetCell, stateRow, hostsRow}
-use Rattle.memory.specs.declared.layout.Layout.{Layout}
+use Rattle.sizes.specs.declared.Layout.{Layout}
 use Rattle.memory.proofs.CellLaws.{same-word, cell-store-same, cell-store-other}
 use Rattle.operands.specs.Kinds.{isAwait}
 use Rattle.sheet.specs.declared.script.Script.{Script}

@@ -6,9 +6,8 @@ use Prim.Native.Nat.{ℕ, _*_, _-_, _≤_, _<_}
 use lib.ListN.{length}
 use Rattle.bitset.specs.Sets.{member}
 use Rattle.dataflow.specs.Lists.{pick, range, keep}
-use Rattle.dataflow.specs.Blocks.{uses}
-use Rattle.dataflow.specs.Code.{Instruction, program}
-use Rattle.dataflow.specs.Verdict.{awaitAt}
+use Rattle.dataflow.specs.BasicBlocks.{uses}
+use Rattle.dataflow.specs.Code.{Instruction, program, awaitAt}
 use Rattle.dataflow.specs.Charges.{costAt}
 use Rattle.budget.specs.declared.FlowBudget.{FlowBudget}
 use Rattle.budget.specs.declared.Limits.{Limits}
@@ -16,7 +15,7 @@ use Rattle.format.specs.declared.refusal.Refusal.the-variants.{WorkLimit, Unfil
 use Rattle.budget.specs.Budget.{charged}
 use Rattle.memory.specs.Cells.{Mem, cell, word}
 use Rattle.memory.specs.Names.{costCell, offsetCell, usesRow, stateRow, parametersRow, hostsRow}
-use Rattle.memory.specs.declared.layout.Layout.{Layout}
+use Rattle.sizes.specs.declared.Layout.{Layout}
 use Rattle.sheet.specs.declared.script.Script.{Script}
 use Rattle.sheet.specs.Decode.{partsOf}
 use Rattle.instructions.specs.Sound.{Sound, codeOffset}

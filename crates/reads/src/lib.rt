@@ -4,12 +4,12 @@ use budget::FlowBudget;
 use budget::Limits;
 use instructions::placed;
 use memory::layout;
-use memory::layout::Layout;
 use operands::instruction;
 use operands::instruction::Instruction;
 use operands::instruction::SlotOperand;
 use operands::kinds;
 use sheet::script::Script;
+use sizes::Layout;
 ghost use mathlib.Core.Path.{_≡_};
 ghost use mathlib.Core.Bool.{not};
 ghost use Prim.Native.Nat.{_*_, _≤_, _<_};
@@ -47,7 +47,7 @@ pub fn block_reads(
     requires { ⌜ Room y (length (now s)) × (Coded (now sheet) script y (scratch y (now s))) × (block < y .blocks) × (Used (flowCode (partsOf (now sheet))) (heldSet y (scratch y (now s))) block start end (scratch y (now s))) × (start ≤ end) × (end ≤ y .instructions) ⌝ }
     ensures { λ r. ⌜ ReadsChecked (flowCode (partsOf (now (sheet .entry)))) (heldSet y (scratch y (now (s .entry)))) y limits budget start end (scratch y (now (s .entry))) (scratch y (now (s .exit))) r ⌝ }
 {
-    if rows::within(s, y, y.uses(block), y.state()) {
+    if rows::within(s, y, layout::uses(y, block), layout::state(y)) {
         return charge_reads(sheet, s, script, y, start, end, limits, budget);
     }
     check_reads(sheet, s, script, y, start, end, limits, budget)
@@ -99,7 +99,7 @@ fn check_reads(
     requires { ⌜ Room y (length (now s)) × (Coded (now sheet) script y (scratch y (now s))) × (start ≤ end) × (end ≤ y .instructions) ⌝ }
     ensures { λ r. ⌜ ReadsChecked (flowCode (partsOf (now (sheet .entry)))) (heldSet y (scratch y (now (s .entry)))) y limits budget start end (scratch y (now (s .entry))) (scratch y (now (s .exit))) r ⌝ }
 {
-    let state = y.state();
+    let state = layout::state(y);
     let mut left = budget;
     let mut awaits = 0;
     let mut pc = start;

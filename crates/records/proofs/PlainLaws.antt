@@ -2,19 +2,21 @@
 use mathlib.Core.Path.{_≡_, refl, ap, sym, _∙_}
 use mathlib.Core.Bool.{Bool, true, false, _||_, _&&_, not, and-eq-true-iff}
 use mathlib.Core.List.{List}
-use Prim.Native.Nat.{ℕ, zero, suc, _+_, _*_, _≤_, _<_}
+use Prim.Native.Nat.{ℕ, _+_, _*_, _≤_, _<_}
 use native.Mathlib.Omega.{arith}
 use borrow.Author.Tests.{le-leb, lt-leb, eq-eqb, ne-eqb, eqb-true, eqb-false, leb-true}
 use lib.Dec.{eqb, leb}
 use lib.ListN.{length, getD}
 use Rattle.operands.specs.Choice.{pick}
 use Rattle.format.specs.declared.types.Typed.the-variants.{Got}
-use Rattle.format.specs.Heads.{u16At, kindAt, endAt, Inside}
-use Rattle.format.specs.Types.{wholeType, typedOf}
+use Rattle.format.specs.Heads.{u16At, kindAt, endAt}
+use Rattle.format.specs.Answers.{Inside, typedOf}
+use Rattle.format.specs.Types.{wholeType}
 use Rattle.format.proofs.HeadLaws.{not-short}
 use Rattle.format.proofs.TypeLaws.{plain-type, whole-absent, whole-deep}
 use Rattle.records.specs.declared.record.Step.the-variants.{Next}
-use Rattle.records.specs.Records.{badSlot, topPhysical, plainSlot, slotFault, stepOf}
+use Rattle.records.specs.Records.{badSlot, topPhysical, plainSlot, slotFault}
+use Rattle.records.specs.Steps.{stepOf}
 use Rattle.records.proofs.RecordLaws.{slot-typed, slot-due}
 
 -- a head in one number is a length and a kind

@@ -14,10 +14,12 @@ use Rattle.format.specs.declared.refusal.Refusal.the-variants.{ShortSheet, Wron
 use Rattle.format.specs.declared.fields.Faults.{Faults}
 use Rattle.records.specs.declared.record.Step.the-variants.{Next, Stop}
 use Rattle.format.specs.declared.types.Typed.the-variants.{Got, BadType}
-use Rattle.format.specs.Heads.{short, kindAt, endAt, bodyLength, fieldsAt, Inside}
-use Rattle.format.specs.Types.{Ty, Read, got, unfit, endsWith, typedOf, wholeType}
-use Rattle.format.specs.Fields.{badModule, noSlot, noTarget, anyField, anyAbove, FaultsIn}
-use Rattle.records.specs.Records.{functionFault, parametersFault, badSlot, slotFault, badInstruction, instructionFault, dueFault, fieldsFault, stepOf}
+use Rattle.format.specs.Heads.{short, kindAt, endAt, bodyLength, fieldsAt}
+use Rattle.format.specs.Types.{Ty, Read, got, unfit, endsWith, wholeType}
+use Rattle.format.specs.Fields.{badModule, noSlot, noTarget, anyField, anyAbove}
+use Rattle.format.specs.Answers.{FaultsIn, Inside, typedOf}
+use Rattle.records.specs.Records.{functionFault, parametersFault, badSlot, slotFault, badInstruction, instructionFault}
+use Rattle.records.specs.Steps.{dueFault, fieldsFault, stepOf}
 
 -- the body of a slot record
 module _ (s : List ℕ) (body end : ℕ) where

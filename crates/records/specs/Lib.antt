@@ -1,2 +1,3 @@
 -- The checks of one record.
 pub mod Records
+pub mod Steps

@@ -1,7 +1,7 @@
 -- The checks of one record: which refusal is due, the least number first. Document 01, "Refusal table".
 use mathlib.Core.Bool.{Bool, _||_, _&&_, not}
 use mathlib.Core.List.{List}
-use mathlib.Core.Option.{Option, none, some}
+use mathlib.Core.Option.{Option, none}
 use Prim.Native.Nat.{ℕ, zero, suc, _+_, _/_, _%_}
 use lib.Dec.{eqb, leb, ltb}
 use lib.ListN.{length, getD}
@@ -9,8 +9,6 @@ use Rattle.operands.specs.Choice.{pick}
 use Rattle.operands.specs.Patterns.{fits}
 use Rattle.format.specs.declared.refusal.Refusal.{Refusal}
 use Rattle.format.specs.declared.refusal.Refusal.the-variants.{ShortSheet, WrongKind, BadBody, NoSuchSlot, NoSuchTarget}
-use Rattle.records.specs.declared.record.Step.{Step}
-use Rattle.records.specs.declared.record.Step.the-variants.{Next, Stop}
 use Rattle.format.specs.Refusals.{due}
 use Rattle.format.specs.Heads.{u16At, short, kindAt, endAt, bodyLength, fieldsAt}
 use Rattle.format.specs.Types.{wholeType, endsWith}
@@ -80,23 +78,3 @@ instructionFault s slots n at =
     (due (anyField (noSlot slots) (kindAt s at) 0 (fieldsAt s at)) NoSuchSlot
     (due (anyField (noTarget n) (kindAt s at) 0 (fieldsAt s at)) NoSuchTarget
     none))))
-
--- the record of the kind that is due: 256, 257 or 258, and else an instruction
-abbrev pub dueFault : List ℕ → ℕ → ℕ → ℕ → ℕ → Option Refusal
-dueFault s kind slots n at =
-    pick (eqb kind 256) (functionFault s at)
-    (pick (eqb kind 257) (parametersFault s slots at) (pick (eqb kind 258) (slotFault s at) (instructionFault s slots n at)))
-
--- 3, 7 and 8 of the fields
-abbrev pub fieldsFault : Bool → Bool → Bool → Option Refusal
-fieldsFault modules slots targets = due modules BadBody (due slots NoSuchSlot (due targets NoSuchTarget none))
-
--- the code's answer: the refusal that is due, or where the next record begins and this one's kind
-abbrev pub stepOf : Option Refusal → ℕ → ℕ → Step
-stepOf (some r) end kind = Stop r
-stepOf none end kind = Next end kind
-
--- the refusal in the code's answer
-abbrev pub refusalIn : Step → Refusal
-refusalIn (Stop r) = r
-refusalIn (Next end kind) = ShortSheet

@@ -11,8 +11,10 @@ use operands::pattern::Pattern;
 ghost use mathlib.Core.Path.{_≡_};
 ghost use Prim.Native.Nat.{_+_, _≤_, min};
 ghost use lib.ListN.{length};
-ghost use Rattle.format.specs.Heads.{kindAt, endAt, Inside};
-ghost use Rattle.records.specs.Records.{stepOf, refusalIn, badSlot, topPhysical, plainSlot, plainRun, fieldsFault, functionFault, parametersFault, slotFault, instructionFault, dueFault};
+ghost use Rattle.format.specs.Heads.{kindAt, endAt};
+ghost use Rattle.format.specs.Answers.{Inside};
+ghost use Rattle.records.specs.Records.{badSlot, topPhysical, plainSlot, plainRun, functionFault, parametersFault, slotFault, instructionFault};
+ghost use Rattle.records.specs.Steps.{stepOf, refusalIn, fieldsFault, dueFault};
 
 pub const FUNCTION: usize = 256;
 

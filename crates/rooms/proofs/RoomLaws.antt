@@ -1,13 +1,12 @@
--- 11 and 10 in their order, and what is known where neither is due. Assumes nothing.
+-- What is known where neither 11 nor 10 is due, and the stages of the count. Assumes nothing.
 use mathlib.Core.Path.{_≡_, refl, sym, ap, ap₂, subst, _∙_}
-use mathlib.Core.Bool.{Bool, true, false, _||_}
+use mathlib.Core.Bool.{Bool, false, _||_}
 use mathlib.Core.List.{List, [], _∷_}
-use Prim.Native.Nat.{ℕ, _*_, _≤_, _<_}
+use Prim.Native.Nat.{ℕ, _*_, _≤_}
 use native.Mathlib.Omega.{arith}
 use lib.Dec.{ltb}
 use lib.ListN.{length, replicate}
-use borrow.Author.Tests.{lt-ltb, le-ltb, ltb-false}
-use Rattle.dataflow.specs.Lists.{pick}
+use borrow.Author.Tests.{ltb-false}
 use Rattle.dataflow.specs.Charges.{leaderCharges}
 use Rattle.dataflow.specs.Results.{blockCount}
 use Rattle.dataflow.proofs.Bools.{or-no-left, or-no-right}
@@ -15,13 +14,14 @@ use Rattle.budget.specs.declared.FlowBudget.{FlowBudget}
 use Rattle.budget.specs.declared.Limits.{Limits}
 use Rattle.budget.specs.declared.Charged.{Charged}
 use Rattle.budget.specs.declared.Charged.the-variants as charging
-use Rattle.budget.specs.Budget.{charged, budgetOf, stateBytes}
+use Rattle.budget.specs.Budget.{charged, budgetOf}
 use Rattle.budget.proofs.BudgetLaws.{met-then, over-then}
-use Rattle.format.specs.declared.refusal.Refusal.the-variants.{NoRoom, StateLimit, WorkLimit}
+use Rattle.format.specs.declared.refusal.Refusal.the-variants.{WorkLimit}
 use Rattle.memory.specs.Cells.{Mem}
-use Rattle.memory.specs.declared.layout.Layout.{Layout}
-use Rattle.memory.specs.Scratch.{scratch, scratchWords, Room}
-use Rattle.memory.specs.Sets.{setsWords, SetsRoom}
+use Rattle.sizes.specs.declared.Layout.{Layout}
+use Rattle.memory.specs.Scratch.{scratch, Room}
+use Rattle.sizes.specs.Sizes.{scratchWords, setsWords, layoutOf, shortOf}
+use Rattle.memory.specs.Sets.{SetsRoom}
 use Rattle.sheet.specs.declared.script.Script.{Script}
 use Rattle.sheet.specs.Decode.{partsOf}
 use Rattle.instructions.specs.Sound.{Sound}
@@ -32,38 +32,12 @@ use Rattle.leaders.specs.Leaders.{marking, Led, Leads}
 use Rattle.leaders.specs.Numbers.{Numbered}
 use Rattle.leaders.proofs.BlockLaws.{blocks-are}
 use Rattle.leaders.proofs.IndexLaws.{indexed, indexed-grown, few-blocks}
-use Rattle.rooms.specs.declared.Lent.{Lent}
-use Rattle.rooms.specs.declared.Staged.{Staged}
-use Rattle.rooms.specs.declared.Staged.the-variants.{Ok, Refused}
-use Rattle.rooms.specs.Rooms.{layoutOf, shortOf, roomsOf, ifMet, Indexes, Counted, Measured}
-
-module _ (l : Limits) (y : Layout) (n : ℕ) (lent : Lent) (b : FlowBudget) where
-  -- 11 is due
-  pub state-due : l .state < stateBytes (y .blocks) (y .words) → Refused StateLimit b ≡ roomsOf l y n lent b
-  unfolding roomsOf
-  state-due h = rw (lt-ltb (l .state) (stateBytes (y .blocks) (y .words)) h) refl
-
-  module _ (h : stateBytes (y .blocks) (y .words) ≤ l .state) where
-    -- 10 is due
-    pub room-due : shortOf y n lent ≡ true → Refused NoRoom b ≡ roomsOf l y n lent b
-    unfolding roomsOf
-    room-due e = rw (le-ltb (l .state) (stateBytes (y .blocks) (y .words)) h, e) refl
-
-    -- neither is
-    pub room-there : shortOf y n lent ≡ false → Ok y b ≡ roomsOf l y n lent b
-    unfolding roomsOf
-    room-there e = rw (le-ltb (l .state) (stateBytes (y .blocks) (y .words)) h, e) refl
-
-  -- where neither is due, the layout is the one asked for and no buffer is short
-  pub rooms-yes : (y′ : Layout) (b′ : FlowBudget) → roomsOf l y n lent b ≡ Ok y′ b′ → (y ≡ y′) × (shortOf y n lent ≡ false)
-  unfolding roomsOf
-  rooms-yes y′ b′ e = go (ltb (l .state) (stateBytes (y .blocks) (y .words))) (shortOf y n lent) refl e
-    where
-      go : (t u : Bool) → shortOf y n lent ≡ u → pick t (Refused StateLimit b) (pick u (Refused NoRoom b) (Ok y b)) ≡ Ok y′ b′
-          → (y ≡ y′) × (shortOf y n lent ≡ false)
-      go true u q e = let z : _≡_ {A = ℕ} 0 1 = cc in absurd (omega arith)
-      go false true q e = let z : _≡_ {A = ℕ} 0 1 = cc in absurd (omega arith)
-      go false false q e = (cc, q)
+use Rattle.sizes.specs.declared.Lent.{Lent}
+use Rattle.sizes.specs.declared.Staged.{Staged}
+use Rattle.sizes.specs.declared.Staged.the-variants.{Ok, Refused}
+use Rattle.rooms.specs.Rooms.{Indexes, Counted, Measured}
+use Rattle.sizes.specs.Stages.{roomsOf, ifMet}
+use Rattle.sizes.proofs.StageLaws.{rooms-yes}
 
 -- buffers that are not short have room
 module _ (s : List ℕ) (x : Script) (h : Sound s x) (n : ℕ) (lent : Lent) (blocks : ℕ) (is : blocks ≡ blockCount (flowCode (partsOf s))) where

@@ -1,10 +1,11 @@
 // Whole rows of scratch and of the sets buffer.
-use memory::layout::Layout;
+use memory::layout;
+use sizes::Layout;
 ghost use mathlib.Core.Path.{_≡_};
 ghost use mathlib.Core.List.{_∷_};
-ghost use Prim.Native.Nat.{_+_, _*_, _≤_, _<_};
+ghost use Prim.Native.Nat.{_+_};
 ghost use lib.ListN.{length, replicate};
-ghost use Rattle.bitset.specs.Sets.{meet, join, difference, same, common, within};
+ghost use Rattle.bitset.specs.Operations.{meet, join, difference, same, common, within};
 ghost use Rattle.memory.specs.Cells.{cell, storeCell};
 ghost use Rattle.memory.specs.Scratch.{scratch, Room, Row};
 ghost use Rattle.memory.specs.Sets.{sets, SetsRoom, SetsRow, AwaitEntry};
@@ -15,7 +16,7 @@ pub fn fill(s: &mut [u64], y: Layout, k: usize, v: u64)
     ensures { λ _. ⌜ scratch y (now (s .exit)) ≡ storeCell (scratch y (now (s .entry))) k (replicate (y .words) v) ⌝ }
 {
     let w = y.words;
-    bitset::fill(s, y.scratch_start(k), w, v);
+    bitset::fill(s, layout::scratch_start(y, k), w, v);
 }
 
 // Row d of scratch becomes row k of scratch.
@@ -24,7 +25,12 @@ pub fn copy(s: &mut [u64], y: Layout, d: usize, k: usize)
     ensures { λ _. ⌜ scratch y (now (s .exit)) ≡ storeCell (scratch y (now (s .entry))) d (cell (scratch y (now (s .entry))) k) ⌝ }
 {
     let w = y.words;
-    bitset::copy_within(s, y.scratch_start(d), y.scratch_start(k), w);
+    bitset::copy_within(
+        s,
+        layout::scratch_start(y, d),
+        layout::scratch_start(y, k),
+        w,
+    );
 }
 
 // Row d of scratch takes in what is in row k of scratch.
@@ -33,7 +39,12 @@ pub fn join(s: &mut [u64], y: Layout, d: usize, k: usize)
     ensures { λ _. ⌜ scratch y (now (s .exit)) ≡ storeCell (scratch y (now (s .entry))) d (join (cell (scratch y (now (s .entry))) d) (cell (scratch y (now (s .entry))) k)) ⌝ }
 {
     let w = y.words;
-    bitset::join_within(s, y.scratch_start(d), y.scratch_start(k), w);
+    bitset::join_within(
+        s,
+        layout::scratch_start(y, d),
+        layout::scratch_start(y, k),
+        w,
+    );
 }
 
 // Row d of scratch loses what is in row k of scratch and then takes in what is in row j.
@@ -44,9 +55,9 @@ pub fn replace(s: &mut [u64], y: Layout, d: usize, k: usize, j: usize)
     let w = y.words;
     bitset::replace_within(
         s,
-        y.scratch_start(d),
-        y.scratch_start(k),
-        y.scratch_start(j),
+        layout::scratch_start(y, d),
+        layout::scratch_start(y, k),
+        layout::scratch_start(y, j),
         w,
     );
 }
@@ -57,7 +68,13 @@ pub fn meet_from(s: &mut [u64], y: Layout, d: usize, t: &[u64], k: usize)
     ensures { λ _. ⌜ scratch y (now (s .exit)) ≡ storeCell (scratch y (now (s .entry))) d (meet (cell (scratch y (now (s .entry))) d) (cell (sets y (now (t .entry))) k)) ⌝ }
 {
     let w = y.words;
-    bitset::meet(s, y.scratch_start(d), t, y.sets_start(k), w);
+    bitset::meet(
+        s,
+        layout::scratch_start(y, d),
+        t,
+        layout::sets_start(y, k),
+        w,
+    );
 }
 
 // Row d of scratch takes in what is in row k of the sets buffer.
@@ -66,7 +83,13 @@ pub fn join_from(s: &mut [u64], y: Layout, d: usize, t: &[u64], k: usize)
     ensures { λ _. ⌜ scratch y (now (s .exit)) ≡ storeCell (scratch y (now (s .entry))) d (join (cell (scratch y (now (s .entry))) d) (cell (sets y (now (t .entry))) k)) ⌝ }
 {
     let w = y.words;
-    bitset::join(s, y.scratch_start(d), t, y.sets_start(k), w);
+    bitset::join(
+        s,
+        layout::scratch_start(y, d),
+        t,
+        layout::sets_start(y, k),
+        w,
+    );
 }
 
 // Row d of scratch becomes row k of the sets buffer.
@@ -75,7 +98,13 @@ pub fn take(s: &mut [u64], y: Layout, d: usize, t: &[u64], k: usize)
     ensures { λ _. ⌜ scratch y (now (s .exit)) ≡ storeCell (scratch y (now (s .entry))) d (cell (sets y (now (t .entry))) k) ⌝ }
 {
     let w = y.words;
-    bitset::copy(s, y.scratch_start(d), t, y.sets_start(k), w);
+    bitset::copy(
+        s,
+        layout::scratch_start(y, d),
+        t,
+        layout::sets_start(y, k),
+        w,
+    );
 }
 
 // Row k of the sets buffer becomes row d of scratch.
@@ -84,7 +113,13 @@ pub fn store(t: &mut [u64], y: Layout, k: usize, s: &[u64], d: usize)
     ensures { λ _. ⌜ sets y (now (t .exit)) ≡ storeCell (sets y (now (t .entry))) k (cell (scratch y (now (s .entry))) d) ⌝ }
 {
     let w = y.words;
-    bitset::copy(t, y.sets_start(k), s, y.scratch_start(d), w);
+    bitset::copy(
+        t,
+        layout::sets_start(y, k),
+        s,
+        layout::scratch_start(y, d),
+        w,
+    );
 }
 
 // Each word of row k of the sets buffer becomes v.
@@ -93,7 +128,7 @@ pub fn fill_sets(t: &mut [u64], y: Layout, k: usize, v: u64)
     ensures { λ _. ⌜ sets y (now (t .exit)) ≡ storeCell (sets y (now (t .entry))) k (replicate (y .words) v) ⌝ }
 {
     let w = y.words;
-    bitset::fill(t, y.sets_start(k), w, v);
+    bitset::fill(t, layout::sets_start(y, k), w, v);
 }
 
 // Whether row k of the sets buffer and row d of scratch hold the same words.
@@ -102,7 +137,13 @@ pub fn same(t: &[u64], y: Layout, k: usize, s: &[u64], d: usize) -> bool
     ensures { λ r. ⌜ r ≡ same (cell (sets y (now (t .entry))) k) (cell (scratch y (now (s .entry))) d) ⌝ }
 {
     let w = y.words;
-    bitset::same(t, y.sets_start(k), s, y.scratch_start(d), w)
+    bitset::same(
+        t,
+        layout::sets_start(y, k),
+        s,
+        layout::scratch_start(y, d),
+        w,
+    )
 }
 
 // Whether rows d and k of scratch have a slot in common.
@@ -111,7 +152,12 @@ pub fn common(s: &[u64], y: Layout, d: usize, k: usize) -> bool
     ensures { λ r. ⌜ r ≡ common (cell (scratch y (now (s .entry))) d) (cell (scratch y (now (s .entry))) k) ⌝ }
 {
     let w = y.words;
-    bitset::common(s, y.scratch_start(d), y.scratch_start(k), w)
+    bitset::common(
+        s,
+        layout::scratch_start(y, d),
+        layout::scratch_start(y, k),
+        w,
+    )
 }
 
 // Whether each slot of row d of scratch is in row k of scratch.
@@ -120,7 +166,12 @@ pub fn within(s: &[u64], y: Layout, d: usize, k: usize) -> bool
     ensures { λ r. ⌜ r ≡ within (cell (scratch y (now (s .entry))) d) (cell (scratch y (now (s .entry))) k) ⌝ }
 {
     let w = y.words;
-    bitset::within(s, y.scratch_start(d), y.scratch_start(k), w)
+    bitset::within(
+        s,
+        layout::scratch_start(y, d),
+        layout::scratch_start(y, k),
+        w,
+    )
 }
 
 // The entry k of an await becomes its instruction and row d of scratch.
@@ -129,7 +180,7 @@ pub fn put_await(t: &mut [u64], y: Layout, k: usize, instruction: u64, s: &[u64]
     ensures { λ _. ⌜ sets y (now (t .exit)) ≡ storeCell (sets y (now (t .entry))) k (instruction ∷ cell (scratch y (now (s .entry))) d) ⌝ }
 {
     let w = y.words;
-    let at = y.sets_start(k);
+    let at = layout::sets_start(y, k);
     t[at] = instruction;
-    bitset::copy(t, at + 1, s, y.scratch_start(d), w);
+    bitset::copy(t, at + 1, s, layout::scratch_start(y, d), w);
 }

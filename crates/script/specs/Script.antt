@@ -10,8 +10,7 @@ use Rattle.dataflow.specs.Code as flow
 use Rattle.operands.specs.Kinds.{endsBlock, isAwait}
 use Rattle.operands.specs.Operands.{inputsOf, outputOf, targetsOf}
 use Rattle.format.specs.Types.{absent}
-use Rattle.sheet.specs.Decode.{Instruction, Parts}
-use Rattle.instructions.specs.Slots.{isHost}
+use Rattle.sheet.specs.Decode.{Instruction, Parts, isHost}
 
 -- what may be there, as a list
 abbrev pub listOf : Option ℕ → List ℕ

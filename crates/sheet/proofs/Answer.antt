@@ -42,7 +42,7 @@ use Rattle.sheet.specs.Decode.{
   partsOf,
 }
 use Rattle.sheet.specs.Stages.{firstOf, lastKind, awaitsFrom, oneIf, answer, withCode, atEnd, atCode, atSlots, atParameters, atSizes}
-use Rattle.sheet.specs.Checks.{hostWords, awaitsIn, scriptOf, checkedBy, checkedOf}
+use Rattle.sheet.specs.Scripts.{hostWords, awaitsIn, scriptOf, checkedBy, checkedOf}
 use Rattle.sheet.proofs.WalkLaws.{or-first}
 
 -- records of one sort, and then others

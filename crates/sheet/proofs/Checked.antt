@@ -1,5 +1,5 @@
 -- What `check` ensures, from its answer: a sheet that passed has no refusal due at any record, and its parts lie in the sheet. Assumes nothing.
-use mathlib.Core.Path.{_≡_, refl, ap, sym, subst, _∙_}
+use mathlib.Core.Path.{_≡_, refl, sym, _∙_}
 use mathlib.Core.Bool.{true, _||_, not}
 use mathlib.Core.List.{List}
 use mathlib.Core.Option.{Option, none, some}
@@ -18,26 +18,11 @@ use Rattle.format.proofs.Or.{or-none}
 use Rattle.records.proofs.Passed.{none-due, parameters-passed}
 use Rattle.format.proofs.HeadLaws.{lies}
 use Rattle.sheet.specs.declared.script.Script.{Script}
-use Rattle.sheet.specs.declared.script.Checked.{Checked}
 use Rattle.sheet.specs.declared.script.Checked.the-variants.{Passed}
-use Rattle.sheet.specs.Decode.{
-  slotsIn,
-  countIn,
-  sizesFault,
-  offsetOf,
-  parametersAt,
-  slotsAt,
-  codeAt,
-  instructionAt,
-  endFault,
-  refusal,
-  idOf,
-  partsOf,
-  decoded,
-  decode,
-}
+use Rattle.sheet.specs.Decode.{slotsIn, countIn, sizesFault, offsetOf, parametersAt, slotsAt, codeAt, instructionAt, endFault, refusal, idOf}
 use Rattle.sheet.specs.Stages.{firstOf}
-use Rattle.sheet.specs.Checks.{scriptOf, checkedBy, checkedOf, outcomeOf, Inside, Checks}
+use Rattle.sheet.specs.Checks.{Inside}
+use Rattle.sheet.specs.Scripts.{scriptOf, checkedBy, checkedOf}
 use Rattle.sheet.proofs.Answer.{slotsFault, codeFault, by-sorts, some-code}
 
 -- of two refusals none is due
@@ -110,7 +95,7 @@ unfolding offsetOf
 offset-up s at zero = omega arith
 offset-up s at (suc k) = let h = offset-up s (endAt s at) k in omega arith
 
-inside-of : (s : List ℕ) → refusal s ≡ none → Inside s (scriptOf s)
+pub inside-of : (s : List ℕ) → refusal s ≡ none → Inside s (scriptOf s)
 unfolding scriptOf
 inside-of s e =
     let c = clean s e in
@@ -132,17 +117,3 @@ passed s x e = go (refusal s) e
     go : (f : Option Refusal) → checkedBy f (idOf s) (scriptOf s) ≡ Passed x → (f ≡ none) × (x ≡ scriptOf s)
     go none e = let q : x ≡ scriptOf s = cc in (refl, q)
     go (some r) e = let z : _≡_ {A = ℕ} 0 1 = cc in absurd (omega arith)
-
-same-outcome : (s : List ℕ) (f : Option Refusal) → outcomeOf s (checkedBy f (idOf s) (scriptOf s)) ≡ decoded f (idOf s) (partsOf s)
-same-outcome s none = refl
-same-outcome s (some r) = refl
-
-pub checks : (s : List ℕ) (r : Checked) → r ≡ checkedOf s → Checks s r
-unfolding decode checkedOf
-checks s r e = record {
-  answer = e;
-  outcome = ap (outcomeOf s) e ∙ same-outcome s (refusal s);
-  inside = λ x q.
-      let p = passed s x (sym e ∙ q) in
-      subst (Inside s) (sym (p .1)) (inside-of s (p .0));
-}

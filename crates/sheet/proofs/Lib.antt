@@ -6,3 +6,5 @@ pub mod StageLaws
 pub mod Answer
 pub mod Checked
 pub mod Rows
+pub mod Numbers
+pub mod CheckLaws

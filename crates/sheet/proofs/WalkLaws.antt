@@ -13,7 +13,8 @@ use Rattle.format.specs.declared.refusal.Refusal.{Refusal}
 use Rattle.records.specs.declared.record.Step.the-variants.{Next, Stop}
 use Rattle.format.specs.Refusals.{orElse}
 use Rattle.format.specs.Heads.{kindAt, endAt}
-use Rattle.records.specs.Records.{parametersFault, slotFault, plainSlot, plainRun, stepOf}
+use Rattle.records.specs.Records.{parametersFault, slotFault, plainSlot, plainRun}
+use Rattle.records.specs.Steps.{stepOf}
 use Rattle.format.proofs.HeadLaws.{lies}
 use Rattle.records.proofs.Passed.{parameters-passed}
 use Rattle.records.proofs.PlainLaws.{plain, plain-due}

@@ -12,7 +12,7 @@ use Rattle.format.specs.Heads.{endAt}
 use Rattle.records.specs.Records.{plainSlot, plainRun}
 use Rattle.records.proofs.PlainLaws.{plain, plain-end}
 use Rattle.sheet.specs.Decode.{offsetOf}
-use Rattle.sheet.specs.Checks.{hostWords}
+use Rattle.sheet.specs.Scripts.{hostWords}
 
 -- a part of the slots, and then the others
 words-split : (s : List ℕ) (at k n i m : ℕ) → hostWords s at (k + n) i m ≡ hostWords s (offsetOf s at k) n (i + k) (hostWords s at k i m)

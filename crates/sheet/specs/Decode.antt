@@ -1,5 +1,5 @@
 -- A sheet's parts, or why it is refused: document 01, "The sheet" and "Refusal table", rows 1 to 9.
-use mathlib.Core.Bool.{_||_, not}
+use mathlib.Core.Bool.{Bool, _||_, not}
 use mathlib.Core.List.{List, [], _∷_, _++_}
 use mathlib.Core.Option.{Option, none, some}
 use Prim.Native.Nat.{ℕ, zero, suc, _+_, _-_}
@@ -11,7 +11,7 @@ use Rattle.format.specs.declared.refusal.Refusal.{Refusal}
 use Rattle.format.specs.declared.refusal.Refusal.the-variants.{LeftOver, TooMany, NoCode, OpenEnd}
 use Rattle.format.specs.Refusals.{numberOf, due, orElse}
 use Rattle.format.specs.Heads.{kindAt, endAt, fieldsAt}
-use Rattle.format.specs.Types.{Ty, absent, Read, got, unfit, wholeType}
+use Rattle.format.specs.Types.{Ty, absent, inlineHost, Read, got, unfit, wholeType}
 use Rattle.records.specs.Records.{functionFault, parametersFault, slotFault, instructionFault}
 
 -- the numbers of the function record, which is the first: id, slot count, instruction count N
@@ -102,6 +102,10 @@ pub record Instruction : Type 0 where
 pub record SlotKind : Type 0 where
   pub physical : ℕ
   pub type : Ty
+
+-- document 01, module 6: a host slot has physical 10, or a type that `inline_host` accepts
+unfoldable pub isHost : SlotKind → Bool
+isHost k = eqb (k .physical) 10 || inlineHost (k .type)
 
 -- what a sheet holds
 pub record Parts : Type 0 where

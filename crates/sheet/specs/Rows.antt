@@ -1,17 +1,35 @@
--- The refusal table of document 01, rows 1 to 9, row by row: what it says of the record that is due at an offset. `proofs/Rows` proves that
--- `decode` gives each number exactly if its row says so.
+-- The refusal table of document 01, rows 1 to 9, row by row: what it says of the record that is due at an offset, and that each number is given
+-- exactly if its row says so (`Table`, a field of the contract of `check`).
 use mathlib.Core.Path.{_≡_}
 use mathlib.Core.Bool.{Bool, true, false, _||_, not}
 use mathlib.Core.List.{List, [], _∷_}
+use mathlib.Core.Logic.{_↔_}
 use mathlib.Core.Option.{none}
-use Prim.Native.Nat.{ℕ, _+_, _-_, _%_, _<_}
+use Prim.Native.Nat.{ℕ, _+_, _-_, _%_, _≤_, _<_}
 use lib.Dec.{eqb, ltb}
 use lib.ListN.{length, getD}
 use Rattle.operands.specs.Kinds.{endsBlock}
 use Rattle.format.specs.Heads.{short, kindAt, endAt, bodyLength, fieldsAt}
 use Rattle.format.specs.Fields.{noSlot, noTarget, anyField, anyAbove}
 use Rattle.records.specs.Records.{badSlot, isInstruction, badInstruction}
-use Rattle.sheet.specs.Decode.{slotsIn, countIn, Due, function, parameters, slot, instruction, dues, faultAt, offsetOf, instructionAt, idOf}
+use Rattle.sheet.specs.Decode.{
+  slotsIn,
+  countIn,
+  Due,
+  function,
+  parameters,
+  slot,
+  instruction,
+  dues,
+  faultAt,
+  offsetOf,
+  instructionAt,
+  idOf,
+  partsOf,
+  Decoded,
+  refused,
+  parts,
+}
 
 -- a test of the record that is due at an offset
 abbrev pub Test : Type 0
@@ -106,3 +124,19 @@ pub record PassedGiven (s : List ℕ) : Type 0 where
   pub passed : (j : ℕ) → j < length (dues s) → Passes s j
   pub no-more : instructionAt s (countIn s) ≡ length s
   pub closed-end : endsBlock (kindAt s (instructionAt s (countIn s - 1))) ≡ true
+
+-- The table, of an answer o in document 01's numbers: "given exactly if". The first bad record decides; within it 1, 2, 3, 5, 6, 7, 8. Then 4, then 9.
+pub record Table (s : List ℕ) (o : Decoded) : Type 0 where
+  pub row-1 : (id : ℕ) → (o ≡ refused 1 id) ↔ FirstBad shortSheet [] s id
+  pub row-2 : (id : ℕ) → (o ≡ refused 2 id) ↔ FirstBad wrongKind (shortSheet ∷ []) s id
+  pub row-3 : (id : ℕ) → (o ≡ refused 3 id) ↔ FirstBad badBody (shortSheet ∷ wrongKind ∷ []) s id
+  pub row-4 : (id : ℕ) → (o ≡ refused 4 id) ↔ LeftOverGiven s id
+  pub row-5 : (id : ℕ) → (o ≡ refused 5 id) ↔ FirstBad tooMany (shortSheet ∷ wrongKind ∷ badBody ∷ []) s id
+  pub row-6 : (id : ℕ) → (o ≡ refused 6 id) ↔ FirstBad noCode (shortSheet ∷ wrongKind ∷ badBody ∷ tooMany ∷ []) s id
+  pub row-7 : (id : ℕ) → (o ≡ refused 7 id) ↔ FirstBad noSuchSlot (shortSheet ∷ wrongKind ∷ badBody ∷ tooMany ∷ noCode ∷ []) s id
+  pub row-8 : (id : ℕ) → (o ≡ refused 8 id) ↔ FirstBad noSuchTarget (shortSheet ∷ wrongKind ∷ badBody ∷ tooMany ∷ noCode ∷ noSuchSlot ∷ []) s id
+  pub row-9 : (id : ℕ) → (o ≡ refused 9 id) ↔ OpenEndGiven s id
+  -- a sheet that has parts passed
+  pub passes : (o ≡ parts (partsOf s)) ↔ PassedGiven s
+  -- and a sheet gives no other number: none of 10 to 15
+  pub numbers : (number id : ℕ) → o ≡ refused number id → (1 ≤ number) × (number ≤ 9)

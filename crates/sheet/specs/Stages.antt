@@ -12,7 +12,8 @@ use Rattle.format.specs.declared.refusal.Refusal.the-variants.{ShortSheet, Left
 use Rattle.records.specs.declared.record.Step.{Step}
 use Rattle.format.specs.Refusals.{due, orElse}
 use Rattle.format.specs.Heads.{kindAt, endAt}
-use Rattle.records.specs.Records.{parametersFault, slotFault, instructionFault, stepOf}
+use Rattle.records.specs.Records.{parametersFault, slotFault, instructionFault}
+use Rattle.records.specs.Steps.{stepOf}
 use Rattle.sheet.specs.declared.script.Script.{Script}
 use Rattle.sheet.specs.declared.script.Checked.{Checked}
 use Rattle.sheet.specs.declared.script.Checked.the-variants.{Passed, Refused}
@@ -21,7 +22,7 @@ use Rattle.sheet.specs.declared.walk.Slots.the-variants.{Through, Halt}
 use Rattle.sheet.specs.declared.walk.Code.{Code}
 use Rattle.sheet.specs.declared.walk.Code.the-variants.{Ended, Stop}
 use Rattle.sheet.specs.Decode.{sizesFault, offsetOf}
-use Rattle.sheet.specs.Checks.{hostWords}
+use Rattle.sheet.specs.Scripts.{hostWords}
 
 -- the first bad one of n records of one sort, from an offset on
 unfoldable pub firstOf : (ℕ → Option Refusal) → List ℕ → ℕ → ℕ → Option Refusal

@@ -1,7 +1,7 @@
 // The checks 1 to 9 of a sheet for hosts in C and Rust.
 use sheet::script::Checked;
 ghost use mathlib.Core.Path.{_≡_};
-ghost use Rattle.sheet.specs.Checks.{checkedOf};
+ghost use Rattle.sheet.specs.Scripts.{checkedOf};
 ghost use Rattle.sheet_c.specs.Exports.{factsOf};
 
 // Number 0 and what the engine has to know of the sheet; or the number of the refusal, with the function's id alone.

@@ -1,18 +1,18 @@
 -- The blocks whom a change concerns are the neighbors on that side, one after the other, and stay where the cells of edges stay. Assumes nothing.
 use mathlib.Core.Path.{_≡_, refl, sym, ap, ap₂, _∙_}
-use mathlib.Core.List.{List, [], _∷_, map}
-use Prim.Native.Nat.{ℕ, _+_, _-_, _≤_, _<_}
+use mathlib.Core.List.{[], _∷_, map}
+use Prim.Native.Nat.{ℕ, _+_, _≤_, _<_}
 use native.Mathlib.Omega.{arith}
-use Rattle.memory.specs.Cells.{Mem, word}
+use Rattle.memory.specs.Cells.{Mem}
 use Rattle.memory.specs.Edges.{sourceOf, countOf, neighbors, Connected}
-use Rattle.memory.specs.declared.layout.Layout.{Layout}
+use Rattle.sizes.specs.declared.Layout.{Layout}
 use Rattle.memory.proofs.CellLaws.{same-word}
 use Rattle.memory.proofs.EdgeLaws.{SameEdges, at-kept, next-kept, successors-all, successors-more, successors-over, successor-block}
 use Rattle.memory.proofs.EdgeLaws.{chain-first, chain-all, chain-more, chain-over, chain-place, chain-end, chain-next, chain-stays}
 use Rattle.transfer.specs.declared.direction.Direction.{Direction}
 use Rattle.transfer.specs.declared.direction.Direction.the-variants.{Initialization, Liveness}
 use Rattle.transfer.specs.Directions.{dependentsOf}
-use Rattle.solver.specs.Dependents.{firstOf, behindOf, dependentAt, dependentsFrom, Numbered, Walks, Placed}
+use Rattle.solver.specs.Dependents.{firstOf, behindOf, dependentAt, dependentsFrom, Walks, Placed}
 
 -- before the first they are all the neighbors
 pub dependents-all : (d : Direction) (m : Mem) (b : ℕ) {n e : ℕ} → n ≡ countOf (dependentsOf d) m b → e ≡ firstOf d m b

@@ -11,7 +11,7 @@ use Rattle.dataflow.specs.Lists.{sum}
 use Rattle.memory.specs.Cells.{Mem, cell, word, store, storeCell}
 use Rattle.memory.specs.Names.{queuedCell, reachableCell, ringCell, firstRow}
 use Rattle.memory.specs.Scratch.{scratchWidths}
-use Rattle.memory.specs.declared.layout.Layout.{Layout}
+use Rattle.sizes.specs.declared.Layout.{Layout}
 use Rattle.memory.proofs.CellLaws.{Sized, cell-store-same, cell-store-other}
 use Rattle.memory.proofs.ScratchLaws.{sized-among, sized-blocks}
 use Rattle.solver.specs.declared.ring.Ring.{Ring}

@@ -1,12 +1,12 @@
 -- The run in steps: those who are told, a visit, and the visits until no block waits. Assumes nothing.
-use mathlib.Core.Path.{_≡_, refl, sym, ap, ap₂, _∙_, subst}
+use mathlib.Core.Path.{_≡_, refl, sym, ap, _∙_, subst}
 use mathlib.Core.Bool.{true, false}
 use mathlib.Core.List.{List, [], _∷_}
 use Prim.Native.Nat.{ℕ, zero, suc, _+_, _*_, _-_, _^_, _≤_, _<_}
 use native.Mathlib.Omega.{arith}
 use native.Mathlib.Nat.{mul-le-mul}
 use borrow.Author.Tests.{eq-eqb, ne-eqb}
-use Rattle.bitset.specs.Sets.{same}
+use Rattle.bitset.specs.Operations.{same}
 use Rattle.budget.specs.declared.FlowBudget.{FlowBudget}
 use Rattle.budget.specs.declared.Limits.{Limits}
 use Rattle.budget.specs.declared.Charged.{Charged}
@@ -16,13 +16,13 @@ use Rattle.budget.proofs.BudgetLaws.{met-one}
 use Rattle.memory.specs.Cells.{Mem, cell, word, store, storeCell}
 use Rattle.memory.specs.Names.{queuedCell, ringCell}
 use Rattle.memory.specs.Scratch.{edgeWords, scratchWidths}
-use Rattle.memory.specs.declared.layout.Layout.{Layout}
+use Rattle.sizes.specs.declared.Layout.{Layout}
 use Rattle.memory.proofs.CellLaws.{Sized}
 use Rattle.transfer.specs.declared.direction.Direction.{Direction}
 use Rattle.solver.specs.declared.ring.Ring.{Ring}
 use Rattle.solver.specs.declared.ring.Turn.{Turn}
 use Rattle.solver.specs.declared.ring.Turn.the-variants.{Stop, Done}
-use Rattle.memory.specs.Edges.{neighbors, Connected}
+use Rattle.memory.specs.Edges.{neighbors}
 use Rattle.transfer.specs.Directions.{dependentsOf}
 use Rattle.transfer.specs.Transfer.{runningRow, keptRow, computed}
 use Rattle.solver.specs.Run.{At, Out, stop, on, atOf, outOf, paid, onward, offered, told, settled, popped, visitCharge, visited, run}

@@ -7,7 +7,7 @@ use Rattle.memory.specs.Cells.{Mem, word}
 use Rattle.memory.specs.Names.{successorCountCell, firstEdgeCell}
 use Rattle.memory.specs.Edges.{successorAt, sourceOf, placeOf, nextEdge, chainFrom, Chain}
 use Rattle.memory.specs.Scratch.{edgeWords}
-use Rattle.memory.specs.declared.layout.Layout.{Layout}
+use Rattle.sizes.specs.declared.Layout.{Layout}
 use Rattle.transfer.specs.declared.direction.Direction.{Direction}
 use Rattle.transfer.specs.declared.direction.Direction.the-variants.{Initialization, Liveness}
 

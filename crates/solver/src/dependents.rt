@@ -2,7 +2,7 @@
 // the compiler takes the choice out of it.
 use memory::edges;
 use memory::layout;
-use memory::layout::Layout;
+use sizes::Layout;
 use transfer::direction::Direction;
 ghost use mathlib.Core.Path.{_≡_};
 ghost use Prim.Native.Nat.{_<_};

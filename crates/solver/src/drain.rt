@@ -8,7 +8,7 @@ use budget::FlowBudget;
 use budget::Limits;
 use memory::edges;
 use memory::layout;
-use memory::layout::Layout;
+use sizes::Layout;
 use transfer::compute;
 use transfer::direction::Direction;
 ghost use mathlib.Core.Path.{_≡_};

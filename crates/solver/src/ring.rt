@@ -1,9 +1,9 @@
 // The ring of waiting blocks, in the cells RING and QUEUED.
 use budget::FlowBudget;
 use memory::layout;
-use memory::layout::Layout;
+use sizes::Layout;
 ghost use mathlib.Core.Path.{_≡_};
-ghost use Prim.Native.Nat.{_+_, _*_, _≤_, _<_};
+ghost use Prim.Native.Nat.{_+_, _≤_, _<_};
 ghost use lib.ListN.{length};
 ghost use Rattle.memory.specs.Scratch.{scratch, Room};
 ghost use Rattle.solver.specs.Run.{wrap, Pushes, Offers};

@@ -1,6 +1,6 @@
 // The beginning of `propagate`: who waits, and who is marked.
 use memory::layout;
-use memory::layout::Layout;
+use sizes::Layout;
 use transfer::direction::Direction;
 ghost use mathlib.Core.Path.{_≡_};
 ghost use Prim.Native.Nat.{_≤_, _<_};

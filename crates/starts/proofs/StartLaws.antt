@@ -13,7 +13,8 @@ use lib.Bits.{bitOr}
 use lib.ListN.{length, getD, set, replicate, length-set, length-replicate}
 use lib.Pow.{field, mod-mod-pow, pow-pos, pow-mono}
 use lib.Seq.{ext-getD, getD-set-same, getD-set-other}
-use Rattle.bitset.specs.Sets.{digit, member, join}
+use Rattle.bitset.specs.Sets.{digit, member}
+use Rattle.bitset.specs.Operations.{join}
 use Rattle.bitset.specs.Rows.{row, patched}
 use Rattle.bitset.proofs.Digits.{bit, bit-or}
 use Rattle.bitset.proofs.SetLaws.{member-past, getD-zipped, length-zipped}

@@ -6,14 +6,15 @@ use native.Mathlib.Omega.{arith}
 use lib.ListN.{length, replicate}
 use lib.Seq.{set-getD}
 use borrow.Author.Tests.{eq-eqb, ne-eqb}
-use Rattle.bitset.specs.Sets.{ones, meet, join, difference}
+use Rattle.bitset.specs.Sets.{ones}
+use Rattle.bitset.specs.Operations.{meet, join, difference}
 use Rattle.dataflow.specs.Lists.{tabulate}
 use Rattle.memory.specs.Cells.{Mem, cell, word, storeCell}
 use Rattle.memory.specs.Names.{reachableCell, successorCountCell, firstEdgeCell, predecessorCountCell}
 use Rattle.memory.specs.Names.{usesRow, definesRow, stateRow, liveStateRow, parametersRow, initializedRow, liveRow}
 use Rattle.memory.specs.Scratch.{Row}
 use Rattle.memory.specs.Sets.{SetsRow}
-use Rattle.memory.specs.declared.layout.Layout.{Layout}
+use Rattle.sizes.specs.declared.Layout.{Layout}
 use Rattle.memory.specs.declared.edges.Side.the-variants.{Successors, Predecessors}
 use Rattle.memory.specs.Edges.{successorAt, sourceOf, nextEdge, chainFrom, countOf, neighbors, Connected, Chain}
 use Rattle.memory.proofs.CellLaws.{cell-store-same, cell-store-other, word-cell-other, store-then}

@@ -1,13 +1,14 @@
 -- What a visit computes, as rows of words: `incoming`, `live_out` and the transfer of solver.rs.
 use mathlib.Core.List.{List, [], _∷_}
-use Prim.Native.Nat.{ℕ, _+_, _*_}
+use Prim.Native.Nat.{ℕ}
 use lib.Dec.{eqb}
 use lib.ListN.{replicate}
-use Rattle.bitset.specs.Sets.{ones, meet, join, difference}
+use Rattle.bitset.specs.Sets.{ones}
+use Rattle.bitset.specs.Operations.{meet, join, difference}
 use Rattle.dataflow.specs.Lists.{pick}
-use Rattle.memory.specs.Cells.{Mem, cell, word, storeCell}
+use Rattle.memory.specs.Cells.{Mem, cell, word}
 use Rattle.memory.specs.Names.{reachableCell, usesRow, definesRow, stateRow, liveStateRow, parametersRow, initializedRow, liveRow}
-use Rattle.memory.specs.declared.layout.Layout.{Layout}
+use Rattle.sizes.specs.declared.Layout.{Layout}
 use Rattle.transfer.specs.declared.direction.Direction.{Direction}
 use Rattle.transfer.specs.declared.direction.Direction.the-variants.{Initialization, Liveness}
 use Rattle.memory.specs.Edges.{neighbors}

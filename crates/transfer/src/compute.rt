@@ -2,7 +2,7 @@
 use crate::direction::Direction;
 use memory::edges;
 use memory::layout;
-use memory::layout::Layout;
+use sizes::Layout;
 ghost use mathlib.Core.Path.{_≡_};
 ghost use mathlib.Core.List.{map};
 ghost use Prim.Native.Nat.{_+_, _-_, _<_, _≤_};
@@ -23,8 +23,8 @@ pub fn running(y: Layout, d: Direction) -> usize
     ensures { λ r. ⌜ r ≡ runningRow d y ⌝ }
 {
     match d {
-        Direction::Initialization => y.state(),
-        Direction::Liveness => y.live_state(),
+        Direction::Initialization => layout::state(y),
+        Direction::Liveness => layout::live_state(y),
     }
 }
 
@@ -34,8 +34,8 @@ pub fn kept(y: Layout, d: Direction, block: usize) -> usize
     ensures { λ r. ⌜ r ≡ keptRow d block ⌝ }
 {
     match d {
-        Direction::Initialization => y.initialized(block),
-        Direction::Liveness => y.live(block),
+        Direction::Initialization => layout::initialized(y, block),
+        Direction::Liveness => layout::live(y, block),
     }
 }
 
@@ -45,10 +45,10 @@ fn begin_initialized(s: &mut [u64], y: Layout, block: usize)
     ensures { λ _. ⌜ scratch y (now (s .exit)) ≡ storeCell (scratch y (now (s .entry))) (runningRow Initialization y) (entryOf Initialization y (scratch y (now (s .entry))) block) ⌝ }
 {
     if block == 0 {
-        rows::copy(s, y, y.state(), y.parameters());
+        rows::copy(s, y, layout::state(y), layout::parameters(y));
         return;
     }
-    rows::fill(s, y, y.state(), 18446744073709551615);
+    rows::fill(s, y, layout::state(y), 18446744073709551615);
 }
 
 // The running row keeps what is initialized at the exit of a predecessor that is reachable.
@@ -57,7 +57,7 @@ fn meet_one(s: &mut [u64], t: &[u64], y: Layout, block: usize)
     ensures { λ _. ⌜ scratch y (now (s .exit)) ≡ storeCell (scratch y (now (s .entry))) (runningRow Initialization y) (gatherOne Initialization (scratch y (now (s .entry))) (sets y (now (t .entry))) block (cell (scratch y (now (s .entry))) (runningRow Initialization y))) ⌝ }
 {
     if memory::scratch::get(s, y, layout::REACHABLE, block) != 0 {
-        rows::meet_from(s, y, y.state(), t, y.initialized(block));
+        rows::meet_from(s, y, layout::state(y), t, layout::initialized(y, block));
     }
 }
 
@@ -80,10 +80,10 @@ fn begin_all(s: &mut [u64], t: &[u64], y: Layout, block: usize)
     ensures { λ _. ⌜ scratch y (now (s .exit)) ≡ storeCell (scratch y (now (s .entry))) (runningRow Initialization y) (gatherOne Initialization (scratch y (now (s .entry))) (sets y (now (t .entry))) block (replicate (y .words) ones)) ⌝ }
 {
     if memory::scratch::get(s, y, layout::REACHABLE, block) == 0 {
-        rows::fill(s, y, y.state(), 18446744073709551615);
+        rows::fill(s, y, layout::state(y), 18446744073709551615);
         return;
     }
-    rows::take(s, y, y.state(), t, y.initialized(block));
+    rows::take(s, y, layout::state(y), t, layout::initialized(y, block));
 }
 
 // The running row is met with what the predecessors at the n edges behind an edge keep.
@@ -123,7 +123,7 @@ fn join_rest(s: &mut [u64], t: &[u64], y: Layout, block: usize, n: usize)
     let mut k = 1;
     while k < n {
         let to = edges::successor(s, y, block, n, k) as usize;
-        rows::join_from(s, y, y.live_state(), t, y.live(to));
+        rows::join_from(s, y, layout::live_state(y), t, layout::live(y, to));
         k += 1;
     }
 }
@@ -135,11 +135,11 @@ fn live_out(s: &mut [u64], t: &[u64], y: Layout, block: usize)
 {
     let n = memory::scratch::get(s, y, layout::SUCCESSOR_COUNT, block) as usize;
     if n == 0 {
-        rows::fill(s, y, y.live_state(), 0);
+        rows::fill(s, y, layout::live_state(y), 0);
         return;
     }
     let to = edges::successor(s, y, block, n, 0) as usize;
-    rows::take(s, y, y.live_state(), t, y.live(to));
+    rows::take(s, y, layout::live_state(y), t, layout::live(y, to));
     join_rest(s, t, y, block, n);
 }
 
@@ -160,7 +160,7 @@ fn transfer(s: &mut [u64], y: Layout, d: Direction, block: usize)
     ensures { λ _. ⌜ scratch y (now (s .exit)) ≡ storeCell (scratch y (now (s .entry))) (runningRow d y) (transferred d (scratch y (now (s .entry))) block (cell (scratch y (now (s .entry))) (runningRow d y))) ⌝ }
 {
     match d {
-        Direction::Initialization => rows::join(s, y, y.state(), y.defines(block)),
+        Direction::Initialization => rows::join(s, y, layout::state(y), layout::defines(y, block)),
         Direction::Liveness => transfer_live(s, y, block),
     }
 }
@@ -170,9 +170,9 @@ fn transfer_live(s: &mut [u64], y: Layout, block: usize)
     requires { ⌜ Room y (length (now s)) × (block < y .blocks) ⌝ }
     ensures { λ _. ⌜ scratch y (now (s .exit)) ≡ storeCell (scratch y (now (s .entry))) (runningRow Liveness y) (transferred Liveness (scratch y (now (s .entry))) block (cell (scratch y (now (s .entry))) (runningRow Liveness y))) ⌝ }
 {
-    let defines = y.defines(block);
-    let uses = y.uses(block);
-    rows::replace(s, y, y.live_state(), defines, uses);
+    let defines = layout::defines(y, block);
+    let uses = layout::uses(y, block);
+    rows::replace(s, y, layout::live_state(y), defines, uses);
 }
 
 // The running row becomes the new set of a block.

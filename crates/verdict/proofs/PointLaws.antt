@@ -13,12 +13,13 @@ use Rattle.dataflow.specs.Lists.{pick, range, keep}
 use Rattle.dataflow.specs.Program.{Program}
 use Rattle.dataflow.specs.Paths.{Reached}
 use Rattle.dataflow.specs.Analyses.{initialization, liveAlong}
-use Rattle.dataflow.specs.Blocks.{blockProgram, pointsOf, Place}
+use Rattle.dataflow.specs.Blocks.{blockProgram, pointsOf}
+use Rattle.dataflow.specs.BasicBlocks.{Place}
 use Rattle.dataflow.specs.Demand.{Least}
-use Rattle.dataflow.specs.Code.{Instruction, program, body, blockGraph}
+use Rattle.dataflow.specs.Code.{Instruction, program, body, blockGraph, awaitAt}
 use Rattle.dataflow.specs.Checked.{Checked}
 use Rattle.dataflow.specs.Results.{blockCount, reachable, liveExit}
-use Rattle.dataflow.specs.Verdict.{awaitAt, accepts}
+use Rattle.dataflow.specs.Verdict.{accepts}
 use Rattle.dataflow.proofs.Lists.{mem-range, range-bounds, keep-append, keep-mem}
 use Rattle.dataflow.proofs.BlockPaths.{entry-place, reached-point}
 use Rattle.dataflow.proofs.Leaders.{blocks-cover}

@@ -11,9 +11,8 @@ use Rattle.dataflow.specs.Lists.{pick, range, every, some}
 use Rattle.dataflow.specs.Charges.{costAt, Spent, within, crossed, saturatingSum, spend}
 use Rattle.dataflow.proofs.Charges.{sum-exact}
 use Rattle.dataflow.specs.Analyses.{initTransfer, liveAlong}
-use Rattle.dataflow.specs.Code.{Instruction, instructionAt, program, body}
+use Rattle.dataflow.specs.Code.{Instruction, instructionAt, program, body, awaitAt}
 use Rattle.dataflow.specs.Results.{blockCount, reachable, initEntry, liveExit}
-use Rattle.dataflow.specs.Verdict.{awaitAt}
 use Rattle.budget.specs.declared.FlowBudget.{FlowBudget}
 use Rattle.budget.specs.declared.Limits.{Limits}
 use Rattle.budget.specs.declared.Charged.{Charged}

@@ -8,10 +8,10 @@ use Rattle.dataflow.specs.Lists.{pick, range, every, some}
 use Rattle.dataflow.specs.Program.{Program}
 use Rattle.dataflow.specs.Analyses.{initTransfer, liveAlong}
 use Rattle.dataflow.specs.Demand.{Unfilled, Held, Faulty}
-use Rattle.dataflow.specs.Code.{Instruction, instructionAt, program, body}
+use Rattle.dataflow.specs.Code.{Instruction, instructionAt, program, body, awaitAt}
 use Rattle.dataflow.specs.Checked.{Checked}
 use Rattle.dataflow.specs.Results.{blockCount, reachable, initEntry, liveExit}
-use Rattle.dataflow.specs.Verdict.{awaitAt, unfilledRead, hostSaved, blockUnfilled, blockHolds, accepts}
+use Rattle.dataflow.specs.Verdict.{unfilledRead, hostSaved, blockUnfilled, blockHolds, accepts}
 use Rattle.dataflow.specs.Charges.{costAt}
 use Rattle.dataflow.proofs.Bools.{not-true}
 use Rattle.dataflow.proofs.Results.{reachable-iff}

@@ -1,12 +1,11 @@
 -- flow.rs `check_points` as a run: the reachable blocks by start, each with its reads from the front and then its awaits from the back.
 use mathlib.Core.Bool.{Bool, _&&_}
 use mathlib.Core.List.{List, [], _∷_, _++_}
-use Prim.Native.Nat.{ℕ, _+_}
+use Prim.Native.Nat.{ℕ}
 use Rattle.dataflow.specs.Lists.{pick, range, every, some}
 use Rattle.dataflow.specs.Analyses.{initTransfer, liveAlong}
-use Rattle.dataflow.specs.Code.{Instruction, instructionAt, program, body}
+use Rattle.dataflow.specs.Code.{Instruction, instructionAt, program, body, awaitAt}
 use Rattle.dataflow.specs.Results.{blockCount, reachable, initEntry, liveExit}
-use Rattle.dataflow.specs.Verdict.{awaitAt}
 use Rattle.dataflow.specs.Charges.{costAt}
 use Rattle.budget.specs.declared.FlowBudget.{FlowBudget}
 use Rattle.budget.specs.declared.Limits.{Limits}

@@ -3,7 +3,7 @@ use mathlib.Core.Bool.{not}
 use Prim.Native.Nat.{_-_}
 use native.Mathlib.Omega.{arith}
 use lib.Dec.{eqb}
-use Rattle.bitset.specs.Sets.{common}
+use Rattle.bitset.specs.Operations.{common}
 use Rattle.bitset.proofs.LoopLaws.{Compared, compared-none, compared-more, compared-all, tells-common}
 use borrow.Author.Needs.{needs}
 use Rattle.bitset.proofs.common.Statement.{statement}

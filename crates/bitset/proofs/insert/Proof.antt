@@ -1,7 +1,7 @@
 -- `bitset::insert` meets its contract: the store is a store into the words from base on. Assumes nothing.
 use denote.Ref.{now}
 use lib.Bits.{bitOr}
-use Rattle.bitset.specs.Sets.{inserted}
+use Rattle.bitset.specs.Operations.{inserted}
 use Rattle.bitset.specs.Rows.{insertedAt}
 use Rattle.bitset.proofs.RowLaws.{put-slot}
 use borrow.Author.Needs.{needs}

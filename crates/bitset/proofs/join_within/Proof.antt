@@ -1,7 +1,7 @@
 -- `bitset::join_within` meets its contract: after k turns the first k words of the row are those of the join. Assumes nothing.
 use Prim.Native.Nat.{_-_}
 use native.Mathlib.Omega.{arith}
-use Rattle.bitset.specs.Sets.{join}
+use Rattle.bitset.specs.Operations.{join}
 use Rattle.bitset.specs.Rows.{row}
 use Rattle.bitset.proofs.LoopLaws.{Stored, made-zipped, stored-none, stored-within, stored-all}
 use borrow.Author.Needs.{needs}

@@ -1,7 +1,7 @@
 -- `bitset::meet` meets its contract: after k turns the first k words of the row are those of the meet. Assumes nothing.
 use Prim.Native.Nat.{_-_}
 use native.Mathlib.Omega.{arith}
-use Rattle.bitset.specs.Sets.{meet}
+use Rattle.bitset.specs.Operations.{meet}
 use Rattle.bitset.specs.Rows.{row}
 use Rattle.bitset.proofs.LoopLaws.{Stored, made-zipped, stored-none, stored-more, stored-all}
 use borrow.Author.Needs.{needs}

@@ -2,7 +2,8 @@
 use Prim.Native.Nat.{_-_}
 use denote.Ref.{now}
 use lib.Bits.{bitAnd}
-use Rattle.bitset.specs.Sets.{ones, removed}
+use Rattle.bitset.specs.Sets.{ones}
+use Rattle.bitset.specs.Operations.{removed}
 use Rattle.bitset.specs.Rows.{removedAt}
 use Rattle.bitset.proofs.RowLaws.{put-slot}
 use borrow.Author.Needs.{needs}

@@ -2,7 +2,7 @@
 use Prim.Native.Nat.{_-_}
 use native.Mathlib.Omega.{arith}
 use lib.Dec.{eqb}
-use Rattle.bitset.specs.Sets.{same}
+use Rattle.bitset.specs.Operations.{same}
 use Rattle.bitset.proofs.LoopLaws.{Compared, compared-none, compared-more, compared-all, tells-same}
 use borrow.Author.Needs.{needs}
 use Rattle.bitset.proofs.same.Statement.{statement}

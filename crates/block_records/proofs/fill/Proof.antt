@@ -51,9 +51,9 @@ use denote.Triple.Clauses.{ensured, lasts}
 use denote.Triple.Walked.{says, needs, Stays, stay-slice, stay-none-slice, stay-none, walkOf, goes-slice, goes-none-slice, goes-none, Walks, ends-at, walked, walk-meets}
 use denote.Exit.{yes as kept}
 use Rattle.dataflow.specs.Lists.{tabulate}
-use Rattle.memory.specs.declared.layout.Layout.{Layout}
-use Rattle.memory.proofs.layout.Layout as Y
-use Rattle.memory.proofs.layout.Layout.Laws as Y′
+use Rattle.sizes.specs.declared.Layout.{Layout}
+use Rattle.sizes.proofs.Layout as Y
+use Rattle.sizes.proofs.Layout.Laws as Y′
 use Rattle.memory.specs.Scratch as memory
 use Rattle.memory.specs.Scratch.{scratch}
 use Rattle.block_records.specs.declared.Block.{Block}

@@ -53,10 +53,10 @@ use Rattle.budget.proofs.FlowBudget as B
 use Rattle.budget.proofs.FlowBudget.Laws as B′
 use Rattle.sheet.specs.Decode.{partsOf}
 use Rattle.script.specs.Script.{parameterIn}
-use Rattle.memory.specs.declared.layout.Layout.{Layout}
+use Rattle.sizes.specs.declared.Layout.{Layout}
 use Rattle.memory.specs.Scratch.{scratch}
-use Rattle.memory.proofs.layout.Layout as Y
-use Rattle.memory.proofs.layout.Layout.Laws as Y′
+use Rattle.sizes.proofs.Layout as Y
+use Rattle.sizes.proofs.Layout.Laws as Y′
 use Rattle.block_records.specs.declared.Block.{Block}
 use Rattle.block_records.specs.Records.{listedBlock}
 use Rattle.block_records.proofs.Block as T

@@ -7,7 +7,7 @@ use Rattle.sheet.specs.Decode.{partsOf}
 use Rattle.starts.specs.Starts.{parameterWith}
 use borrow.Author.Needs.{needs}
 use Rattle.format.specs.declared.refusal.Refusal.the-variants.{WorkLimit}
-use Rattle.rooms.specs.declared.Staged.the-variants.{Refused}
+use Rattle.sizes.specs.declared.Staged.the-variants.{Refused}
 use Rattle.graph.proofs.build.Statement.{statement}
 use Rattle.graph.proofs.build.Tie as tie
 

@@ -3,7 +3,7 @@ use mathlib.Core.Path.{ap}
 use Rattle.graph.proofs.GraphLaws.{reaches-over, reaches-on}
 use borrow.Author.Needs.{needs}
 use Rattle.format.specs.declared.refusal.Refusal.the-variants.{WorkLimit}
-use Rattle.rooms.specs.declared.Staged.the-variants.{Refused}
+use Rattle.sizes.specs.declared.Staged.the-variants.{Refused}
 use Rattle.graph.proofs.reach.Statement.{statement}
 use Rattle.graph.proofs.reach.Tie as tie
 

@@ -4,7 +4,7 @@ use mathlib.Core.Path.{sym, ap, ap₂, _∙_}
 use Prim.Native.Nat.{ℕ}
 use native.Mathlib.Omega.{arith}
 use denote.Ref.{now}
-use Rattle.bitset.specs.Sets.{within}
+use Rattle.bitset.specs.Operations.{within}
 use Rattle.dataflow.specs.Code.{Instruction}
 use Rattle.memory.specs.Cells.{cell}
 use Rattle.memory.specs.Scratch.{scratch}

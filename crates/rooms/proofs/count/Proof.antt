@@ -7,7 +7,7 @@ use mathlib.Core.Path.{_∙_, ap}
 use native.Mathlib.Omega.{arith}
 use borrow.Author.Needs.{needs}
 use Rattle.format.specs.declared.refusal.Refusal.the-variants.{WorkLimit}
-use Rattle.rooms.specs.declared.Staged.the-variants.{Refused}
+use Rattle.sizes.specs.declared.Staged.the-variants.{Refused}
 use Rattle.rooms.proofs.count.Statement.{statement}
 use Rattle.rooms.proofs.count.Tie as tie
 
@@ -43,8 +43,8 @@ number-blocks-requires c κs =
       first-marked (now (a .sheet)) (a .script) _ h (g .led _ (c .before .before .c .given .1)),
     )
 
-layout-requires : tie.Need-layout-requires
-layout-requires c κs = search needs
+of-requires : tie.Need-of-requires
+of-requires c κs = search needs
 
 rooms-requires : tie.Need-rooms-requires
 rooms-requires c κs =
@@ -52,7 +52,7 @@ rooms-requires c κs =
     let h = c .before .before .before .before .before .before .before .before .before .before .before .before .before .before .pre .0 in
     let g = c .before .before .before .before .before .before .before .before .before .before .leaders .ensures in
     let is = blocks-are (now (a .sheet)) (a .script) h _ (g .led _ (c .before .before .before .before .before .before .c .given .1)) _ _ (c .before .before .before .number-blocks .ensures) in
-    rw (c .layout .ensures) (small (now (a .sheet)) (a .script) h 0 (a .lent) _ is)
+    rw (c .of .ensures) (small (now (a .sheet)) (a .script) h 0 (a .lent) _ is)
 
 same-length-2 : tie.Need-same-length-2
 same-length-2 c = search needs
@@ -61,7 +61,7 @@ returns-2 : tie.Need-returns-2
 returns-2 c =
     let a = c .before .before .before .before .before .before .before .before .before .before .before .before .before .before .before .args in
     let h = c .before .before .before .before .before .before .before .before .before .before .before .before .before .before .before .pre .0 in
-    counted-on (now (a .sheet)) (a .script) (a .limits) (a .lent) (a .budget) _ _ h _ _ _ _ _ _ (c .before .before .before .before .before .before .before .before .before .before .before .leaders .ensures) (c .before .before .before .before .before .before .before .c .given .1) (c .before .before .before .before .number-blocks .ensures) (omega (arith, c .before .before .before .before .number-blocks .kept .0, c .before .before .before .before .before .before .before .before .before .before .before .leaders .kept .1)) _ _ (c .before .layout .ensures) (omega (arith, c .before .before .before .before .number-blocks .kept .0, c .before .before .before .before .before .before .before .before .before .before .before .leaders .kept .1)) (c .rooms .ensures)
+    counted-on (now (a .sheet)) (a .script) (a .limits) (a .lent) (a .budget) _ _ h _ _ _ _ _ _ (c .before .before .before .before .before .before .before .before .before .before .before .leaders .ensures) (c .before .before .before .before .before .before .before .c .given .1) (c .before .before .before .before .number-blocks .ensures) (omega (arith, c .before .before .before .before .number-blocks .kept .0, c .before .before .before .before .before .before .before .before .before .before .before .leaders .kept .1)) _ _ (c .before .of .ensures) (omega (arith, c .before .before .before .before .number-blocks .kept .0, c .before .before .before .before .before .before .before .before .before .before .before .leaders .kept .1)) (c .rooms .ensures)
 
 pub count-spec : {M : Type 1} → statement M
 count-spec =
@@ -74,7 +74,7 @@ count-spec =
     same-length
     returns
     number-blocks-requires
-    layout-requires
+    of-requires
     rooms-requires
     same-length-2
     returns-2)

@@ -4,7 +4,7 @@ use Rattle.rooms.proofs.RoomLaws.{measured-over, measured-on}
 use denote.Ref.{now}
 use borrow.Author.Needs.{needs}
 use Rattle.format.specs.declared.refusal.Refusal.the-variants.{WorkLimit}
-use Rattle.rooms.specs.declared.Staged.the-variants.{Refused}
+use Rattle.sizes.specs.declared.Staged.the-variants.{Refused}
 use Rattle.rooms.proofs.measure.Statement.{statement}
 use Rattle.rooms.proofs.measure.Tie as tie
 

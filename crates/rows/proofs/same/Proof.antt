@@ -2,7 +2,7 @@
 use mathlib.Core.Path.{_∙_, ap₂}
 use denote.Ref.{now}
 use borrow.Author.Needs.{needs}
-use Rattle.bitset.specs.Sets.{same}
+use Rattle.bitset.specs.Operations.{same}
 use Rattle.memory.specs.Scratch.{scratch}
 use Rattle.memory.specs.Sets.{sets}
 use Rattle.memory.proofs.CellRows.{lies-fits, lies-row}

@@ -1,7 +1,7 @@
 -- `rows::within` meets its contract. Assumes nothing.
 use mathlib.Core.Path.{_∙_, ap₂}
 use denote.Ref.{now}
-use Rattle.bitset.specs.Sets.{within}
+use Rattle.bitset.specs.Operations.{within}
 use Rattle.memory.specs.Scratch.{scratch}
 use Rattle.memory.proofs.CellRows.{lies-fits, lies-row}
 use Rattle.memory.proofs.ScratchLaws.{row-lies}

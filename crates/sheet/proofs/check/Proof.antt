@@ -8,7 +8,7 @@ use Rattle.records.specs.Records.{functionFault}
 use Rattle.format.proofs.HeadLaws.{lies}
 use Rattle.records.proofs.Passed.{function-passed}
 use Rattle.sheet.proofs.Answer.{function-bad, function-due}
-use Rattle.sheet.proofs.Checked.{checks}
+use Rattle.sheet.proofs.CheckLaws.{checks}
 use Rattle.sheet.proofs.WalkLaws.{went, halted}
 use Rattle.sheet.proofs.check.Statement.{statement}
 use Rattle.sheet.proofs.check.Tie as tie

@@ -5,7 +5,7 @@ use borrow.Author.Needs.{needs}
 use Rattle.records.specs.Records.{slotFault}
 use Rattle.sheet.specs.Decode.{offsetOf}
 use Rattle.sheet.specs.Stages.{firstOf, atSlots}
-use Rattle.sheet.specs.Checks.{hostWords}
+use Rattle.sheet.specs.Scripts.{hostWords}
 use Rattle.sheet.proofs.StageLaws.{slots-went, slot-halted}
 use Rattle.sheet.proofs.check_slots.Statement.{statement}
 use Rattle.sheet.proofs.check_slots.Tie as tie

@@ -3,7 +3,7 @@ use mathlib.Core.Path.{sym, ap, _∙_}
 use Prim.Native.Nat.{ℕ}
 use native.Mathlib.Omega.{arith}
 use denote.Ref.{now}
-use Rattle.bitset.specs.Sets.{inserted}
+use Rattle.bitset.specs.Operations.{inserted}
 use Rattle.memory.specs.Cells.{cell, storeCell}
 use Rattle.memory.specs.Scratch.{scratch}
 use Rattle.operands.specs.Instructions.{valuesOf, slotIn}

@@ -1,6 +1,6 @@
 -- `format::fields::bound` meets its contract. Assumes nothing.
 use borrow.Author.Tests.{eq-eqb, ne-eqb}
-use Rattle.format.specs.Fields.{boundOf}
+use Rattle.format.specs.Answers.{boundOf}
 use Rattle.format.proofs.fields.bound.Statement.{statement}
 use Rattle.format.proofs.fields.bound.Tie as tie
 

@@ -2,7 +2,7 @@
 use Prim.Native.Nat.{_<_}
 use native.Mathlib.Omega.{arith}
 use borrow.Author.Needs.{needs}
-use Rattle.format.specs.Fields.{boundOf}
+use Rattle.format.specs.Answers.{boundOf}
 use Rattle.format.proofs.FitLaws.{below-bound, absent-fits}
 use Rattle.format.proofs.fields.field_fits.Statement.{statement}
 use Rattle.format.proofs.fields.field_fits.Tie as tie

@@ -6,7 +6,7 @@ use denote.Ref.{now}
 use borrow.Author.Count.{below-none, below-more}
 use borrow.Author.Needs.{needs}
 use borrow.Author.Tests.{not-false}
-use Rattle.format.specs.Fields.{Faultless}
+use Rattle.format.specs.Answers.{Faultless}
 use Rattle.operands.specs.Bytes.{u32At}
 use Rattle.operands.specs.Patterns.{roleAt}
 use Rattle.format.proofs.fields.first_fit.Statement.{statement}

@@ -1,8 +1,8 @@
-use mathlib.Core.Path.{sym, ap, ap₂, _∙_, subst}
+use mathlib.Core.Path.{sym, ap, ap₂, subst}
 use Prim.Native.Nat.{ℕ, _-_}
 use native.Mathlib.Omega.{arith}
 use denote.Ref.{now}
-use Rattle.instructions.specs.Slots.{SlotStands, isHost, hostSlotAt}
+use Rattle.instructions.specs.Slots.{SlotStands, hostSlotAt}
 use Rattle.instructions.specs.Sets.{hostWordAt}
 use Rattle.instructions.specs.declared.slot.HostSlot.{HostSlot}
 use Rattle.instructions.proofs.HostWords.{Bitted, bitted-none, bitted-more, bitted-all, bitted-next}

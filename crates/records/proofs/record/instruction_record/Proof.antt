@@ -4,7 +4,7 @@ use Prim.Native.Nat.{ℕ, _-_, _/_}
 use native.Mathlib.Omega.{arith}
 use denote.Ref.{now}
 use borrow.Author.Needs.{needs}
-use Rattle.format.specs.Fields.{FaultsIn}
+use Rattle.format.specs.Answers.{FaultsIn}
 use Rattle.operands.specs.Bytes.{numbersAt}
 use Rattle.operands.specs.Patterns.{fits}
 use Rattle.records.proofs.RecordLaws.{instruction-low, instruction-high, instruction-cut, instruction-unfit, instruction-due}

@@ -1,9 +1,9 @@
--- `rooms::rooms` meets its contract. Assumes nothing.
+-- `sizes::rooms` meets its contract. Assumes nothing.
 use mathlib.Core.Path.{sym, _∙_}
-use Rattle.rooms.proofs.RoomLaws.{state-due, room-due, room-there}
+use Rattle.sizes.proofs.StageLaws.{state-due, room-due, room-there}
 use borrow.Author.Needs.{needs}
-use Rattle.rooms.proofs.rooms.Statement.{statement}
-use Rattle.rooms.proofs.rooms.Tie as tie
+use Rattle.sizes.proofs.rooms.Statement.{statement}
+use Rattle.sizes.proofs.rooms.Tie as tie
 
 state-bytes-requires : tie.Need-state-bytes-requires
 state-bytes-requires c κs = search needs

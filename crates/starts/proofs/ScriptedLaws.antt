@@ -12,8 +12,8 @@ use Rattle.sheet.specs.Decode.{partsOf}
 use Rattle.instructions.specs.Sound.{Sound}
 use Rattle.script.specs.Script.{flowCode}
 use Rattle.script.proofs.ScriptLaws.{code-at, code-past}
 use Rattle.starts.proofs.StartLaws.{checked-with}
-use Rattle.fixed_points.specs.FixedPoints.{Scripted}
+use Rattle.dataflow.specs.Checked.{Scripted}
 
 module _ (s : List ℕ) (x : Script) (sound : Sound s x) where
   -- no instruction of it empties a slot

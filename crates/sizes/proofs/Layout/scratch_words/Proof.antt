@@ -1,9 +1,9 @@
--- `memory::layout::Layout::scratch_words` meets its contract. Assumes nothing.
+-- `sizes::Layout::scratch_words` meets its contract. Assumes nothing.
 use native.Mathlib.Nat.{mul-le-mul}
 use native.Mathlib.Omega.{arith}
 use borrow.Author.Needs.{needs}
-use Rattle.memory.proofs.layout.Layout.scratch_words.Statement.{statement}
-use Rattle.memory.proofs.layout.Layout.scratch_words.Tie as tie
+use Rattle.sizes.proofs.Layout.scratch_words.Statement.{statement}
+use Rattle.sizes.proofs.Layout.scratch_words.Tie as tie
 
 mul-result : tie.Need-mul-result
 mul-result c = search needs

@@ -1,12 +1,12 @@
--- `memory::layout::Layout::scratch_start` meets its contract. Assumes nothing.
+-- `memory::layout::scratch_start` meets its contract. Assumes nothing.
 use mathlib.Core.Path.{sym}
 use Prim.Native.Nat.{_-_}
 use native.Mathlib.Nat.{mul-le-mul}
 use native.Mathlib.Omega.{arith}
 use borrow.Author.Needs.{needs}
 use Rattle.memory.proofs.ScratchLaws.{start-instructions, start-blocks, start-edges, start-row}
-use Rattle.memory.proofs.layout.Layout.scratch_start.Statement.{statement}
-use Rattle.memory.proofs.layout.Layout.scratch_start.Tie as tie
+use Rattle.memory.proofs.layout.scratch_start.Statement.{statement}
+use Rattle.memory.proofs.layout.scratch_start.Tie as tie
 
 mul-result : tie.Need-mul-result
 mul-result c =
@@ -16,7 +16,7 @@ mul-result c =
 returns : tie.Need-returns
 returns c =
     let b = c .before .before in
-    sym (start-instructions (b .args .self) (b .args .k) (omega arith))
+    sym (start-instructions (b .args .y) (b .args .k) (omega arith))
 
 mul-result-2 : tie.Need-mul-result-2
 mul-result-2 c = search needs
@@ -34,7 +34,7 @@ add-result c =
 returns-2 : tie.Need-returns-2
 returns-2 c =
     let b = c .before .before .before .before in
-    sym (start-blocks (b .args .self) (b .args .k) (omega arith) (omega arith))
+    sym (start-blocks (b .args .y) (b .args .k) (omega arith) (omega arith))
 
 mul-result-4 : tie.Need-mul-result-4
 mul-result-4 c = search needs
@@ -61,7 +61,7 @@ add-result-3 c =
 returns-3 : tie.Need-returns-3
 returns-3 c =
     let b = c .before .before .before .before .before .before in
-    sym (start-edges (b .args .self) (b .args .k) (omega arith) (omega arith))
+    sym (start-edges (b .args .y) (b .args .k) (omega arith) (omega arith))
 
 mul-result-8 : tie.Need-mul-result-8
 mul-result-8 c = search needs
@@ -88,7 +88,7 @@ add-result-6 c =
 returns-4 : tie.Need-returns-4
 returns-4 c =
     let b = c .before .before .before .before .before .before .before in
-    sym (start-row (b .args .self) (b .args .k) (record { low = omega arith; high = b .pre .3 }))
+    sym (start-row (b .args .y) (b .args .k) (record { low = omega arith; high = b .pre .3 }))
 
 pub scratch-start-spec : {M : Type 1} → statement M
 scratch-start-spec =

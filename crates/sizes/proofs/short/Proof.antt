@@ -1,11 +1,11 @@
--- `rooms::short` meets its contract. Assumes nothing.
+-- `sizes::short` meets its contract. Assumes nothing.
 use lib.Dec.{ltb}
 use Prim.Native.Nat.{ℕ}
 use mathlib.Core.Bool.{_||_}
 use mathlib.Core.Path.{ap₂}
 use borrow.Author.Needs.{needs}
-use Rattle.rooms.proofs.short.Statement.{statement}
-use Rattle.rooms.proofs.short.Tie as tie
+use Rattle.sizes.proofs.short.Statement.{statement}
+use Rattle.sizes.proofs.short.Tie as tie
 
 scratch-words-requires : tie.Need-scratch-words-requires
 scratch-words-requires c κs = search needs

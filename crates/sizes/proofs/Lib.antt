@@ -1,0 +1,2 @@
+-- Laws of the refusals that the sizes decide.
+pub mod StageLaws
