@@ -23,7 +23,7 @@ extern "C" {
  * The version of this interface. It grows with a release that adds a call or a refusal, or changes
  * an answer; CHANGELOG.md says what each version brought.
  */
-#define KAGARI_FLOW_VERSION 1
+#define KAGARI_FLOW_VERSION 2
 
 /*
  * What is charged so far: steps of work, and bytes of await facts retained. Begin with zeros; hand
@@ -44,20 +44,23 @@ typedef struct {
 
 /*
  * The answer.
- * number    0 if the script is accepted, else the refusal, 1 to 15
+ * number    0 if the script is accepted, else the refusal, 1 to 15 or 17
  * function  the function's id; 0 if the function record itself is refused with 1, 2 or 3
  * blocks    how many blocks there are (B); 0 after a refusal
  * awaits    how many awaits a path from instruction 0 reaches; 0 after a refusal
  * work, retained
- *           the budget afterwards: as given after 1 to 9, and after 10 if scratch is shorter than
- *           4 * N words; else as charged, with the sum that crossed a limit
+ *           the budget afterwards: as given after 1 to 9 and 17, and after 10 if scratch is shorter
+ *           than 4 * N words; else as charged, with the sum that crossed a limit
  */
 typedef struct {
     uint32_t number, function;
     uint64_t blocks, awaits, work, retained;
 } kagari_flow_answer; /* number 0: accepted */
 
-/* The refusals. Of several that are due, the order of docs/REFUSALS.md decides. */
+/*
+ * The refusals. Of several that are due, the order of docs/REFUSALS.md decides. No answer has the
+ * number 16. A later version may add numbers.
+ */
 enum kagari_flow_number {
     KAGARI_FLOW_ACCEPTED = 0,
     /* The sheet ends inside a record, or a record's length is below 2: hand in the whole sheet. */
@@ -93,7 +96,9 @@ enum kagari_flow_number {
     KAGARI_FLOW_HOST_OVER_AWAIT = 14,
     /* The await facts would retain more than 67,108,864 bytes: start from a smaller retained
        budget, or save less. */
-    KAGARI_FLOW_FACTS_LIMIT = 15
+    KAGARI_FLOW_FACTS_LIMIT = 15,
+    /* The parameter record names a slot twice: give each parameter a slot of its own. */
+    KAGARI_FLOW_PARAMETER_TWICE = 17
 };
 
 /*
@@ -105,8 +110,8 @@ enum kagari_flow_number {
  *     blocks    B                                    records
  *     sets      B * 2 * w + A * (1 + w)              words of 64 bits
  *
- * A shorter one is refused with 10; of a longer one the rest is cleared. A sheet that is refused
- * with 1 to 9, such as one with slots or N above 65,536, needs no room at all.
+ * A shorter one is refused with 10; of a longer one the rest is cleared. The refusals 1 to 9 and 17,
+ * as of a sheet with slots or N above 65,536, need no room at all.
  *
  * B is known only afterwards, but it is at most N, and a script with more blocks than
  * KAGARI_FLOW_MOST_BLOCKS(w) is refused with 11 before these lengths are looked at. So for one

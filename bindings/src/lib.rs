@@ -68,7 +68,7 @@ pub use sizes::Sizes;
 
 /// The version of the interface, as in `kagari_flow.h`: it grows with a release that adds a
 /// call or a refusal, or changes an answer.
-pub const VERSION: u32 = 1;
+pub const VERSION: u32 = 2;
 
 /// Memory that is lent to [`verify_in`], each part of any length. What it holds on entry
 /// does not matter. After a refusal all of it is zero; after an acceptance `scratch` is,

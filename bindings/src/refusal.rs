@@ -11,8 +11,8 @@ pub struct Refusal {
     pub number: Number,
     /// The function's id; 0 if the function record itself is refused with 1, 2 or 3.
     pub function: u32,
-    /// The budget: as given after 1 to 9, and after 10 if scratch is shorter than four
-    /// words an instruction; else as charged, with the sum that crossed a limit.
+    /// The budget: as given after 1 to 9 and 17, and after 10 if scratch is shorter than
+    /// four words an instruction; else as charged, with the sum that crossed a limit.
     pub budget: Budget,
 }
 
@@ -31,7 +31,8 @@ impl fmt::Display for Refusal {
 
 impl Error for Refusal {}
 
-/// The rows of the refusal table. `docs/REFUSALS.md` says what to do about each.
+/// The rows of the refusal table; none has the number 16. `docs/REFUSALS.md` says what to
+/// do about each.
 #[derive(Debug, Clone, Copy, PartialEq, Eq, Hash)]
 #[non_exhaustive]
 #[repr(u32)]
@@ -66,10 +67,12 @@ pub enum Number {
     HostOverAwait,
     /// The await facts would retain more than 67,108,864 bytes.
     FactsLimit,
+    /// The parameter record names a slot twice.
+    ParameterTwice = 17,
 }
 
 impl Number {
-    /// All rows, in the table's order.
+    /// All rows, by their numbers.
     pub const ALL: &[Self] = &[
         Self::ShortSheet,
         Self::WrongKind,
@@ -86,6 +89,7 @@ impl Number {
         Self::UnfilledSlot,
         Self::HostOverAwait,
         Self::FactsLimit,
+        Self::ParameterTwice,
     ];
 
     /// What the table calls it.
@@ -106,6 +110,7 @@ impl Number {
             Self::UnfilledSlot => "unfilled slot",
             Self::HostOverAwait => "host over await",
             Self::FactsLimit => "facts limit",
+            Self::ParameterTwice => "parameter twice",
         }
     }
 
@@ -128,10 +133,17 @@ mod tests {
     use super::*;
 
     #[test]
-    fn the_rows_are_numbered_from_1_to_15() {
+    fn the_rows_are_numbered_1_to_15_and_17() {
+        let expected = || (1..=15).chain([17]);
         let numbers = Number::ALL.iter().map(|&row| row as u32);
-        assert!(numbers.eq(1..=15));
-        assert!((1..=15).all(|number| Number::from_table(number) as u32 == number));
+        assert!(numbers.eq(expected()));
+        assert!(expected().all(|number| Number::from_table(number) as u32 == number));
+    }
+
+    #[test]
+    #[should_panic(expected = "the refusal table has no row 16")]
+    fn no_row_has_the_number_16() {
+        Number::from_table(16);
     }
 
     #[test]

@@ -22,7 +22,7 @@ pub struct Sizes {
 }
 
 impl Sizes {
-    /// No room at all: enough for a sheet that is refused with 1 to 9.
+    /// No room at all: enough for the refusals 1 to 9 and 17.
     pub const NONE: Self = Self {
         blocks: 0,
         sets: 0,
@@ -75,7 +75,7 @@ struct Counts {
 
 impl Counts {
     /// Walks the heads of a sheet's records. `None` if one of them is not there, or the
-    /// counts are too large; such a sheet is refused with 1 to 9.
+    /// counts are too large; such a sheet gets one of 1 to 9 and 17.
     fn of(sheet: &[u8]) -> Option<Self> {
         let mut left = sheet;
         let [_, slots, instructions] = function_record(&mut left)?;

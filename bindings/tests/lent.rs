@@ -109,6 +109,24 @@ fn after_a_refusal_zeros() {
     }
 }
 
+/// A parameter named twice is refused whatever is lent, and nothing is charged.
+#[test]
+fn a_parameter_twice_needs_no_room() {
+    let script = Script {
+        parameters: vec![0, 0],
+        ..case_d()
+    };
+    let plenty = Sizes::for_counts(64, 64, 64);
+    for sizes in [Sizes::NONE, exact(&script, 1), plenty] {
+        let mut memory = Memory::dirty(sizes);
+        let refusal = memory.verify(&sheet(&script)).expect_err("refused");
+        assert_eq!(refusal.number, Number::ParameterTwice);
+        assert_eq!(refusal.function, 7);
+        assert_eq!(refusal.budget, Budget::default());
+        assert!(memory.is_zero_past(0, 0));
+    }
+}
+
 /// One record or word less than document 01 says is refusal 10.
 #[test]
 fn one_less_is_no_room() {

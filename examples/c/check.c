@@ -155,8 +155,10 @@ static const char *name_of(uint32_t number)
         "accepted",   "short sheet",   "wrong kind",      "bad body",    "left over", "too many",
         "no code",    "no such slot",  "no such target",  "open end",    "no room",   "state limit",
         "work limit", "unfilled slot", "host over await", "facts limit",
+        [KAGARI_FLOW_PARAMETER_TWICE] = "parameter twice",
     };
-    return number < sizeof names / sizeof *names ? names[number] : "another number";
+    const char *name = number < sizeof names / sizeof *names ? names[number] : NULL;
+    return name != NULL ? name : "another number";
 }
 
 static void print_answer(const kagari_flow_answer *answer)

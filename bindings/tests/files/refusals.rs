@@ -106,6 +106,18 @@ fn over_the_state_limit(words: usize) -> Option<usize> {
     (blocks <= 65_536).then_some(16 + 4 + 6 * slots + 4 * blocks)
 }
 
+/// A function record and two parameters; nothing behind them is looked at.
+#[test]
+fn the_sheet_of_17_is_the_shortest() {
+    let section = sections().pop().expect("a section");
+    assert_eq!(section.heading, "17 parameter twice");
+    let (sheet, _) = section.sheet();
+    assert_eq!(sheet.len(), 16 + 4 + 2 * 4);
+    for end in 0..sheet.len() {
+        assert_eq!(number(&sheet[..end], Budget::default()), 1);
+    }
+}
+
 #[test]
 fn the_sheet_of_11_is_the_shortest() {
     let shortest = (0..=1_024).filter_map(over_the_state_limit).min();

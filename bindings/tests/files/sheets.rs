@@ -29,6 +29,7 @@ fn files() -> Vec<(&'static str, Script)> {
         ("m.hex", case_b()),
         ("o.hex", case_d()),
         ("route.hex", route()),
+        ("twice.hex", twice()),
     ]
 }
 
@@ -48,6 +49,14 @@ fn route() -> Script {
             return_absent(),
         ],
     )
+}
+
+/// Case d with its parameter named twice.
+fn twice() -> Script {
+    Script {
+        parameters: vec![0, 0],
+        ..case_d()
+    }
 }
 
 #[test]

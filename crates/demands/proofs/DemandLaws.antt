@@ -44,7 +44,7 @@ use Rattle.demands.specs.Table.{
   acceptance,
 }
 use Rattle.demands.proofs.TableLaws.{table}
-use Rattle.sheet.proofs.Numbers.{sheet-number}
+use Rattle.sheet.proofs.Numbers.{none-later}
 use Rattle.demands.proofs.AcceptLaws.{
   not-faulty,
   reads-filled,
@@ -151,11 +151,11 @@ module _ (s : List ℕ) (parameter : ℕ → Bool) (l : Limits) (n : Lengths) (b
     -- ---- 13, 14, and the other refusals
 
     due-unfilled : (id : ℕ) (left : FlowBudget) → Due s parameter l n b (refused UnfilledSlot id left) → Checks s parameter l n b (stop UnfilledSlot left)
-    due-unfilled id left (bad-sheet r e) = let z = sheet-number s UnfilledSlot e in absurd (omega (arith, z .1))
+    due-unfilled id left (bad-sheet r e) = absurd (none-later s UnfilledSlot e (omega arith) (omega arith))
     due-unfilled id left (unfilled-slot z g) = g
 
     due-held : (id : ℕ) (left : FlowBudget) → Due s parameter l n b (refused HostOverAwait id left) → Checks s parameter l n b (stop HostOverAwait left)
-    due-held id left (bad-sheet r e) = let z = sheet-number s HostOverAwait e in absurd (omega (arith, z .1))
+    due-held id left (bad-sheet r e) = absurd (none-later s HostOverAwait e (omega arith) (omega arith))
     due-held id left (host-over-await z g) = g
 
     checked-sheet : refusal s ≡ none → Checked (code s) parameter (scriptOf s .slots)

@@ -1,5 +1,5 @@
 -- Document 01's refusal table with its last paragraph, row by row: which answer is due for these bytes, with these parameters, limits, lent lengths
--- and budget. Rows 1 to 9 are `refusal`, whose rows stand in crates/sheet/specs/Rows.antt. The law `table` says that each answer is given exactly if
+-- and budget. Rows 1 to 9 and 17 are `refusal`, whose rows stand in crates/sheet/specs/Rows.antt. The law `table` says that each answer is given exactly if
 -- it is due.
 use mathlib.Core.Path.{_≡_}
 use mathlib.Core.Bool.{Bool, true, false}
@@ -31,7 +31,7 @@ module _ (s : List ℕ) (parameter : ℕ → Bool) (l : Limits) (n : Lengths) (b
   abbrev pub short : Bool
   short = shortOf layout (n .scratch) (record { sets = n .sets; records = n .records })
 
-  -- 1 to 9 are not due, nor is the early 10: "then scratch below 4 × N words is 10"
+  -- 1 to 9 and 17 are not due, nor is the early 10: "then scratch below 4 × N words is 10"
   pub record Begins : Type 0 where
     pub passed : refusal s ≡ none
     pub room : 4 * layout .instructions ≤ n .scratch
@@ -68,7 +68,7 @@ module _ (s : List ℕ) (parameter : ℕ → Bool) (l : Limits) (n : Lengths) (b
   -- "A refusal returns number, function id .. and budget: as given for 1 to 9 and the early 10, otherwise as charged, the sum that crossed a limit
   -- included. An acceptance returns function id, B, the number of reachable awaits and the budget."
   pub data Due : Outcome → Type 0 where
-    -- 1 to 9
+    -- 1 to 9 and 17, with the budget as given
     bad-sheet : (r : Refusal) → refusal s ≡ some r → Due (refused r (idOf s) b)
     -- 10, early and later
     no-room-early : refusal s ≡ none → n .scratch < 4 * layout .instructions → Due (refused NoRoom (idOf s) b)

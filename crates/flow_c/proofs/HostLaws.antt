@@ -25,6 +25,7 @@ use Rattle.format.specs.declared.refusal.Refusal.the-variants.{
   UnfilledSlot,
   HostOverAwait,
   FactsLimit,
+  ParameterTwice,
 }
 use Rattle.outcome.specs.Outcome.{Outcome, accepted, refused}
 use Rattle.budget.specs.Budget.{todays}
@@ -54,14 +55,15 @@ number-small WorkLimit = omega arith
 number-small UnfilledSlot = omega arith
 number-small HostOverAwait = omega arith
 number-small FactsLimit = omega arith
+number-small ParameterTwice = omega arith
 
 -- ---- an answer in numbers is that of one outcome
 
--- the refusals by number
+-- the refusals by number; 0 and 16 are none
 abbrev refusals : List Refusal
 refusals =
     ShortSheet ∷ ShortSheet ∷ WrongKind ∷ BadBody ∷ LeftOver ∷ TooMany ∷ NoCode ∷ NoSuchSlot ∷ NoSuchTarget ∷ OpenEnd ∷ NoRoom ∷ StateLimit
-    ∷ WorkLimit ∷ UnfilledSlot ∷ HostOverAwait ∷ FactsLimit ∷ []
+    ∷ WorkLimit ∷ UnfilledSlot ∷ HostOverAwait ∷ FactsLimit ∷ ShortSheet ∷ ParameterTwice ∷ []
 
 abbrev budgetIn : FlowAnswer → FlowBudget
 budgetIn f = record { work = f .work; retained = f .retained }
@@ -86,6 +88,7 @@ back-is (refused WorkLimit id b) = refl
 back-is (refused UnfilledSlot id b) = refl
 back-is (refused HostOverAwait id b) = refl
 back-is (refused FactsLimit id b) = refl
+back-is (refused ParameterTwice id b) = refl
 
 answer-one : (o p : Outcome) → answerOf o ≡ answerOf p → o ≡ p
 answer-one o p e = sym (back-is o) ∙ ap back e ∙ back-is p

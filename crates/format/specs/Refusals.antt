@@ -20,9 +20,10 @@ use Rattle.format.specs.declared.refusal.Refusal.the-variants.{
   UnfilledSlot,
   HostOverAwait,
   FactsLimit,
+  ParameterTwice,
 }
 
--- the table's numbers
+-- the table's numbers; 16 is not given yet
 abbrev pub numberOf : Refusal → ℕ
 numberOf ShortSheet = 1
 numberOf WrongKind = 2
@@ -39,6 +40,7 @@ numberOf WorkLimit = 12
 numberOf UnfilledSlot = 13
 numberOf HostOverAwait = 14
 numberOf FactsLimit = 15
+numberOf ParameterTwice = 17
 
 -- the refusal where the test holds; else what follows it
 abbrev pub due : Bool → Refusal → Option Refusal → Option Refusal

@@ -18,6 +18,7 @@ pub enum Refusal {
     UnfilledSlot,
     HostOverAwait,
     FactsLimit,
+    ParameterTwice,
 }
 
 impl Refusal {
@@ -41,6 +42,7 @@ impl Refusal {
             Refusal::UnfilledSlot => 13,
             Refusal::HostOverAwait => 14,
             Refusal::FactsLimit => 15,
+            Refusal::ParameterTwice => 17,
         }
     }
 }

@@ -20,7 +20,7 @@ use Rattle.format.specs.Heads.{kindAt, endAt, bodyLength, fieldsAt}
 use Rattle.format.specs.Fields.{noSlot, noTarget}
 use Rattle.format.proofs.HeadLaws.{lies}
 use Rattle.records.specs.Records.{slotFault, instructionFault}
-use Rattle.records.proofs.Passed.{InstructionPassed, parameters-passed, slot-passed, instruction-passed}
+use Rattle.records.proofs.Passed.{InstructionPassed, parameters-passed, slot-passed, instruction-passed, none-above}
 use Rattle.sheet.specs.declared.script.Script.{Script}
 use Rattle.sheet.specs.declared.script.Checked.the-variants.{Passed}
 use Rattle.sheet.specs.Decode.{
@@ -45,7 +45,7 @@ use Rattle.sheet.proofs.WordLaws.{few-words, behind-words}
 use Rattle.instructions.specs.Placed.{placedAt}
 use Rattle.bitset.specs.Below.{AllBelow}
 use Rattle.instructions.specs.Sound.{Sound}
-use Rattle.instructions.proofs.Below.{below-nth, none-above}
+use Rattle.instructions.proofs.Below.{below-nth}
 use Rattle.instructions.proofs.Operands.{no-field-at, inputs-ok, outputs-ok, targets-ok}
 use Rattle.instructions.proofs.PlacedLaws.{no-host}
 use Rattle.instructions.proofs.SetSteps.{offset-next}
@@ -154,6 +154,7 @@ sound-script s e =
       few-awaits = awaits-few s (codeAt s) (countIn s);
       params-inside = omega (arith, w .ordered, w .within);
       params-below = none-above (slotsIn s) (fieldsAt s (parametersAt s)) (p .below);
+      params-once = p .once;
       slots-stand = record {
         each = λ k h.
             let q = slot-passed s (offsetOf s (slotsAt s) k) (each-none (λ a. slotFault s a) s (slotsAt s) (slotsIn s) (c .slots-ok) k h) in

@@ -10,6 +10,7 @@ use Rattle.operands.specs.Kinds.{endsBlock}
 use Rattle.operands.specs.Operands.{inputsOf, outputOf, targetsOf}
 use Rattle.operands.specs.Instructions.{Readable, valuesOf}
 use Rattle.operands.specs.declared.instruction.Instruction.{Instruction}
+use Rattle.repeats.specs.Repeats.{anyTwice}
 use Rattle.sheet.specs.declared.script.Script.{Script}
 use Rattle.sheet.specs.Decode.{SlotKind, slotOf, instructionOf, recordsFrom, offsetOf, partsOf, parts, decode, isHost}
 use Rattle.sheet.specs.Scripts.{awaitsIn}
@@ -46,9 +47,10 @@ pub record Sound (s : List ℕ) (x : Script) : Type 0 where
   -- the awaits, reached or not
   pub awaits-are : x .awaits ≡ awaitsIn (partsOf s .code)
   pub few-awaits : x .awaits ≤ x .count
-  -- the parameters lie in the sheet, and each is a slot of the function
+  -- the parameters lie in the sheet, each is a slot of the function, and none is named twice
   pub params-inside : x .«params_at» + 4 * x .params ≤ length s
   pub params-below : AllBelow (x .slots) (partsOf s .params)
+  pub params-once : anyTwice (partsOf s .params) ≡ false
   -- the slot records stand one after the other, and each holds its slot
   pub slots-stand : SlotsStand s (x .«slots_at») (x .slots)
   pub slot-is : (k : ℕ) (d : SlotKind) → k < x .slots → getD (partsOf s .kinds) k d ≡ slotOf s (offsetOf s (x .«slots_at») k)

@@ -13,6 +13,7 @@ use Rattle.operands.specs.Places.{gathered}
 use Rattle.operands.specs.Variants.{slotInputs, slotOutput, jumpTargets, variants}
 use Rattle.operands.specs.Kinds.{endsBlock, isAwait}
 use Rattle.operands.specs.Bytes.{numbersAt}
+use Rattle.repeats.specs.Repeats.{anyTwice}
 use Rattle.format.specs.Heads.{fieldsAt, short}
 use Rattle.format.specs.Types.{itemsAt, leaf, typeAt, wholeType}
 use Rattle.format.specs.Fields.{badModule, noSlot, noTarget, anyField, anyAbove}
@@ -81,7 +82,7 @@ pub record Cases : Type 0 where
   pub j : Gives (sheetOf 7 (0 ∷ []) (3 ∷ 3 ∷ []) (i 8 (1 ∷ 0 ∷ []) ∷ [])) (refused OpenEnd 7 (at 0 0)) [] []
 
 pub cases : Cases
-unfolding run solution initAtEntry liveAtEntry search turns sweep groups patternIn patternOf roleIn roleAt fixedAt listAt fits gathered slotInputs slotOutput jumpTargets variants bySource inputsOf outputOf targetsOf endsBlock isAwait numbersAt fieldsAt short itemsAt leaf typeAt wholeType badModule noSlot noTarget anyField anyAbove functionFault parametersFault badSlot slotFault badInstruction instructionFault dues sizesFault faultAt firstBad offsetOf endFault refusal idOf recordsFrom partsOf decode awaitsIn scriptOf checkedOf isHost flowCode parameterIn hostIn charged retained roomsOf graphOf readsRun awaitRun pointRun awaitsRun blockRun blocksRun pointsRun awaitPoints blockPoints points outcomeOf numberOf wordsFrom
+unfolding run solution initAtEntry liveAtEntry search turns sweep groups patternIn patternOf roleIn roleAt fixedAt listAt fits gathered slotInputs slotOutput jumpTargets variants bySource inputsOf outputOf targetsOf endsBlock isAwait numbersAt fieldsAt short itemsAt leaf typeAt wholeType badModule noSlot noTarget anyField anyAbove anyTwice functionFault parametersFault badSlot slotFault badInstruction instructionFault dues sizesFault faultAt firstBad offsetOf endFault refusal idOf recordsFrom partsOf decode awaitsIn scriptOf checkedOf isHost flowCode parameterIn hostIn charged retained roomsOf graphOf readsRun awaitRun pointRun awaitsRun blockRun blocksRun pointsRun awaitPoints blockPoints points outcomeOf numberOf wordsFrom
 cases = record {
   a = record { answer = refl; blocks = refl; words = refl };
   b = record { answer = refl; blocks = refl; words = refl };

@@ -1,16 +1,18 @@
 -- What a record that passed is like: each check taken back. Assumes nothing.
 use mathlib.Core.Path.{_≡_, refl}
 use mathlib.Core.Bool.{Bool, true, false, _||_, not, and-eq-true-iff}
-use mathlib.Core.List.{List}
+use mathlib.Core.List.{List, [], _∷_}
 use mathlib.Core.Option.{Option, none}
 use Prim.Native.Nat.{ℕ, _+_, _/_, _%_, _≤_, _<_}
 use native.Mathlib.Omega.{arith}
 use borrow.Author.Tests.{not-false, eqb-true, leb-true, leb-false}
 use lib.Dec.{eqb, leb, ltb}
 use lib.ListN.{getD}
+use Rattle.bitset.specs.Below.{AllBelow}
 use Rattle.operands.specs.Patterns.{fits}
+use Rattle.repeats.specs.Repeats.{anyTwice}
 use Rattle.format.specs.declared.refusal.Refusal.{Refusal}
-use Rattle.format.specs.declared.refusal.Refusal.the-variants.{ShortSheet, WrongKind, BadBody, NoSuchSlot, NoSuchTarget}
+use Rattle.format.specs.declared.refusal.Refusal.the-variants.{ShortSheet, WrongKind, BadBody, NoSuchSlot, NoSuchTarget, ParameterTwice}
 use Rattle.format.specs.Refusals.{due}
 use Rattle.format.specs.Heads.{short, kindAt, endAt, bodyLength, fieldsAt}
 use Rattle.format.specs.Types.{wholeType, endsWith}
@@ -22,6 +24,14 @@ use Rattle.records.specs.Records.{functionFault, parametersFault, badSlo
 pub none-due : (b : Bool) (r : Refusal) (rest : Option Refusal) → due b r rest ≡ none → (b ≡ false) × (rest ≡ none)
 none-due false r rest e = (refl, e)
 none-due true r rest e = let z : _≡_ {A = ℕ} 0 1 = cc in absurd (omega arith)
+
+-- no number at or above a bound
+pub none-above : (n : ℕ) (l : List ℕ) → anyAbove n l ≡ false → AllBelow n l
+unfolding anyAbove
+none-above n [] e = tt
+none-above n (x ∷ l) e =
+    let a = or-none (leb n x) (anyAbove n l) e in
+    (leb-false n x (a .0), none-above n l (a .1))
 
 pub record FunctionPassed (s : List ℕ) (at : ℕ) : Type 0 where
   pub whole : short s at ≡ false
@@ -41,6 +51,7 @@ pub record ParametersPassed (s : List ℕ) (slots at : ℕ) : Type 0 where
   pub kind : kindAt s at ≡ 257
   pub fields : bodyLength s at % 4 ≡ 0
   pub below : anyAbove slots (fieldsAt s at) ≡ false
+  pub once : anyTwice (fieldsAt s at) ≡ false
 
 pub parameters-passed : (s : List ℕ) (slots at : ℕ) → parametersFault s slots at ≡ none → ParametersPassed s slots at
 unfolding parametersFault
@@ -49,7 +60,8 @@ parameters-passed s slots at e =
     let b = none-due _ WrongKind _ (a .1) in
     let c = none-due _ BadBody _ (b .1) in
     let d = none-due _ NoSuchSlot _ (c .1) in
-    record { whole = a .0; kind = eqb-true _ _ (not-false _ (b .0)); fields = eqb-true _ _ (not-false _ (c .0)); below = d .0 }
+    let t = none-due _ ParameterTwice _ (d .1) in
+    record { whole = a .0; kind = eqb-true _ _ (not-false _ (b .0)); fields = eqb-true _ _ (not-false _ (c .0)); below = d .0; once = t .0 }
 
 pub record SlotPassed (s : List ℕ) (at : ℕ) : Type 0 where
   pub whole : short s at ≡ false

@@ -10,12 +10,13 @@ use lib.ListN.{getD}
 use Rattle.operands.specs.Choice.{pick}
 use Rattle.operands.specs.Patterns.{fits}
 use Rattle.operands.specs.Bytes.{numbersAt}
-use Rattle.format.specs.declared.refusal.Refusal.the-variants.{ShortSheet, WrongKind, BadBody, NoSuchSlot, NoSuchTarget}
+use Rattle.format.specs.declared.refusal.Refusal.the-variants.{ShortSheet, WrongKind, BadBody, NoSuchSlot, NoSuchTarget, ParameterTwice}
 use Rattle.format.specs.declared.fields.Faults.{Faults}
 use Rattle.records.specs.declared.record.Step.the-variants.{Next, Stop}
 use Rattle.format.specs.declared.types.Typed.the-variants.{Got, BadType}
 use Rattle.format.specs.Heads.{short, kindAt, endAt, bodyLength, fieldsAt}
 use Rattle.format.specs.Types.{Ty, Read, got, unfit, endsWith, wholeType}
+use Rattle.repeats.specs.Repeats.{anyTwice}
 use Rattle.format.specs.Fields.{badModule, noSlot, noTarget, anyField, anyAbove}
 use Rattle.format.specs.Answers.{FaultsIn, Inside, typedOf}
 use Rattle.records.specs.Records.{functionFault, parametersFault, badSlot, slotFault, badInstruction, instructionFault}
@@ -141,10 +142,15 @@ module _ {s : List ℕ} {at kind body end : ℕ} (i : Inside s at kind body end)
   unfolding parametersFault
   parameters-slot slots e n b = rw (i .whole, is 257 e, whole-fields n, ← ap (anyAbove slots) same-fields, ← b)
 
-  pub parameters-due : (slots : ℕ) → kind ≡ 257 → (end - body) % 4 ≡ 0 → false ≡ anyAbove slots (numbersAt s body ((end - body) / 4))
-      → Next end kind ≡ stepOf (parametersFault s slots at) (endAt s at) (kindAt s at)
+  pub parameters-twice : (slots : ℕ) → kind ≡ 257 → (end - body) % 4 ≡ 0 → false ≡ anyAbove slots (numbersAt s body ((end - body) / 4))
+      → true ≡ anyTwice (numbersAt s body ((end - body) / 4)) → Stop ParameterTwice ≡ stepOf (parametersFault s slots at) (endAt s at) (kindAt s at)
   unfolding parametersFault
-  parameters-due slots e n b = rw (i .whole, is 257 e, whole-fields n, ← ap (anyAbove slots) same-fields, ← b) passed
+  parameters-twice slots e n b t = rw (i .whole, is 257 e, whole-fields n, ← same-fields, ← b, ← t)
+
+  pub parameters-due : (slots : ℕ) → kind ≡ 257 → (end - body) % 4 ≡ 0 → false ≡ anyAbove slots (numbersAt s body ((end - body) / 4))
+      → false ≡ anyTwice (numbersAt s body ((end - body) / 4)) → Next end kind ≡ stepOf (parametersFault s slots at) (endAt s at) (kindAt s at)
+  unfolding parametersFault
+  parameters-due slots e n b t = rw (i .whole, is 257 e, whole-fields n, ← same-fields, ← b, ← t) passed
 
   module _ (slots n : ℕ) where
     pub instruction-low : kind < 1 → Stop WrongKind ≡ stepOf (instructionFault s slots n at) (endAt s at) (kindAt s at)

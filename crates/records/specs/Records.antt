@@ -8,7 +8,8 @@ use lib.ListN.{length, getD}
 use Rattle.operands.specs.Choice.{pick}
 use Rattle.operands.specs.Patterns.{fits}
 use Rattle.format.specs.declared.refusal.Refusal.{Refusal}
-use Rattle.format.specs.declared.refusal.Refusal.the-variants.{ShortSheet, WrongKind, BadBody, NoSuchSlot, NoSuchTarget}
+use Rattle.format.specs.declared.refusal.Refusal.the-variants.{ShortSheet, WrongKind, BadBody, NoSuchSlot, NoSuchTarget, ParameterTwice}
+use Rattle.repeats.specs.Repeats.{anyTwice}
 use Rattle.format.specs.Refusals.{due}
 use Rattle.format.specs.Heads.{u16At, short, kindAt, endAt, bodyLength, fieldsAt}
 use Rattle.format.specs.Types.{wholeType, endsWith}
@@ -22,14 +23,15 @@ functionFault s at =
     (due (not (eqb (bodyLength s at) 12)) BadBody
     none))
 
--- kind 257, parameter slots
+-- kind 257, parameter slots, each named once
 unfoldable pub parametersFault : List ℕ → ℕ → ℕ → Option Refusal
 parametersFault s slots at =
     due (short s at) ShortSheet
     (due (not (eqb (kindAt s at) 257)) WrongKind
     (due (not (eqb (bodyLength s at % 4) 0)) BadBody
     (due (anyAbove slots (fieldsAt s at)) NoSuchSlot
-    none)))
+    (due (anyTwice (fieldsAt s at)) ParameterTwice
+    none))))
 
 -- 3: a slot's body that is not one physical byte, 0 to 12, then a type
 unfoldable pub badSlot : List ℕ → ℕ → ℕ → Bool

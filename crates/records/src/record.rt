@@ -72,6 +72,9 @@ fn parameter_record(s: &[u8], slots: usize, at: usize, kind: usize, body: usize,
     if fields::any_above(s, body, len / 4, slots) {
         return Step::Stop(Refusal::NoSuchSlot);
     }
+    if repeats::any_twice(s, body, len / 4, slots) {
+        return Step::Stop(Refusal::ParameterTwice);
+    }
     Step::Next(end, kind)
 }
 

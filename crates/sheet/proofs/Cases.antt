@@ -6,6 +6,7 @@ use Prim.Native.Nat.{ℕ}
 use Rattle.operands.specs.Patterns.{groups, patternIn, patternOf, roleIn, roleAt, fixedAt, listAt, fits}
 use Rattle.operands.specs.Kinds.{endsBlock}
 use Rattle.operands.specs.Bytes.{numbersAt}
+use Rattle.repeats.specs.Repeats.{anyTwice}
 use Rattle.format.specs.Heads.{fieldsAt, short}
 use Rattle.format.specs.Types.{absent, reference, tuple, no-more, item, itemsAt, leaf, typeAt, wholeType}
 use Rattle.format.specs.Fields.{badModule, noSlot, noTarget, anyField, anyAbove}
@@ -150,6 +151,18 @@ shortFunction =
 abbrev noBytes : List ℕ
 noBytes = []
 
+-- the shortest sheet with a parameter named twice: what stands behind the record is not looked at
+abbrev twice : List ℕ
+twice =
+    14 ∷ 0 ∷ 0 ∷ 1 ∷ 7 ∷ 0 ∷ 0 ∷ 0 ∷ 1 ∷ 0 ∷ 0 ∷ 0 ∷ 1 ∷ 0 ∷ 0 ∷ 0 ∷
+    10 ∷ 0 ∷ 1 ∷ 1 ∷ 0 ∷ 0 ∷ 0 ∷ 0 ∷ 0 ∷ 0 ∷ 0 ∷ 0 ∷ []
+
+-- a repeat, and behind it a slot at the slot count
+abbrev twiceAndAbove : List ℕ
+twiceAndAbove =
+    14 ∷ 0 ∷ 0 ∷ 1 ∷ 7 ∷ 0 ∷ 0 ∷ 0 ∷ 1 ∷ 0 ∷ 0 ∷ 0 ∷ 1 ∷ 0 ∷ 0 ∷ 0 ∷
+    14 ∷ 0 ∷ 1 ∷ 1 ∷ 0 ∷ 0 ∷ 0 ∷ 0 ∷ 0 ∷ 0 ∷ 0 ∷ 0 ∷ 1 ∷ 0 ∷ 0 ∷ 0 ∷ []
+
 -- The parts of those that pass.
 abbrev plain : SlotKind
 plain = record { physical = 3; type = absent }
@@ -191,9 +204,11 @@ pub record Cases : Type 0 where
   pub three-before-seven : decode largeModule ≡ refused 3 7
   pub not-named : decode shortFunction ≡ refused 3 0
   pub no-bytes : decode noBytes ≡ refused 1 0
+  pub named-twice : decode twice ≡ refused 17 7
+  pub seven-before-seventeen : decode twiceAndAbove ≡ refused 7 7
 
 pub cases : Cases
-unfolding groups patternIn patternOf roleIn roleAt fixedAt listAt fits endsBlock numbersAt fieldsAt short itemsAt leaf typeAt wholeType badModule noSlot noTarget anyField anyAbove functionFault parametersFault badSlot slotFault badInstruction instructionFault dues sizesFault faultAt firstBad offsetOf endFault refusal idOf recordsFrom partsOf decode
+unfolding groups patternIn patternOf roleIn roleAt fixedAt listAt fits endsBlock numbersAt fieldsAt short itemsAt leaf typeAt wholeType badModule noSlot noTarget anyField anyAbove anyTwice functionFault parametersFault badSlot slotFault badInstruction instructionFault dues sizesFault faultAt firstBad offsetOf endFault refusal idOf recordsFrom partsOf decode
 cases = record {
   no-code = refl;
   await-return = refl;
@@ -210,4 +225,6 @@ cases = record {
   three-before-seven = refl;
   not-named = refl;
   no-bytes = refl;
+  named-twice = refl;
+  seven-before-seventeen = refl;
 }

@@ -1,11 +1,11 @@
--- The refusal table, rows 1 to 9: `decode` gives each number exactly if its row says so, and parts exactly if none of them is due.
+-- The refusal table, rows 1 to 9 and 17: `decode` gives each number exactly if its row says so, and parts exactly if none of them is due.
 -- Assumes nothing.
 use mathlib.Core.Logic.{_↔_}
 use mathlib.Core.Path.{_≡_, refl, ap, sym, _∙_}
 use mathlib.Core.Bool.{Bool, true, false, _&&_, not}
 use mathlib.Core.List.{List, [], _∷_, _++_}
 use mathlib.Core.Option.{Option, none, some}
-use Prim.Native.Nat.{ℕ, zero, suc, _+_, _-_, _<_}
+use Prim.Native.Nat.{ℕ, zero, suc, _-_, _<_}
 use native.Mathlib.Omega.{arith}
 use borrow.Author.Tests.{eq-eqb, ne-eqb, eqb-true, eqb-false}
 use lib.Dec.{eqb}
@@ -28,6 +28,7 @@ use Rattle.format.specs.declared.refusal.Refusal.the-variants.{
   UnfilledSlot,
   HostOverAwait,
   FactsLimit,
+  ParameterTwice,
 }
 use Rattle.format.specs.Refusals.{numberOf, due, orElse}
 use Rattle.format.specs.Heads.{kindAt, endAt}
@@ -63,6 +64,7 @@ use Rattle.sheet.specs.Rows.{
   noCode,
   noSuchSlot,
   noSuchTarget,
+  parameterTwice,
   dueAt,
   recordAt,
   None,
@@ -73,11 +75,12 @@ use Rattle.sheet.specs.Rows.{
 }
 use Rattle.sheet.proofs.Checked.{neither, ends-well}
 
--- a refusal is told by its number
+-- a refusal is told by its number; 16 is none yet, and any stands in its place
 refusals : List Refusal
 refusals =
     ShortSheet ∷ WrongKind ∷ BadBody ∷ LeftOver ∷ TooMany ∷ NoCode ∷ NoSuchSlot ∷ NoSuchTarget ∷
-    OpenEnd ∷ NoRoom ∷ StateLimit ∷ WorkLimit ∷ UnfilledSlot ∷ HostOverAwait ∷ FactsLimit ∷ []
+    OpenEnd ∷ NoRoom ∷ StateLimit ∷ WorkLimit ∷ UnfilledSlot ∷ HostOverAwait ∷ FactsLimit ∷
+    ShortSheet ∷ ParameterTwice ∷ []
 
 told : (r : Refusal) → getD refusals (numberOf r - 1) ShortSheet ≡ r
 unfolding refusals
@@ -96,6 +99,7 @@ told WorkLimit = refl
 told UnfilledSlot = refl
 told HostOverAwait = refl
 told FactsLimit = refl
+told ParameterTwice = refl
 
 same-number : (q r : Refusal) → numberOf q ≡ numberOf r → q ≡ r
 same-number q r e = sym (told q) ∙ ap (λ (n : ℕ). getD refusals (n - 1) ShortSheet) e ∙ told r
@@ -112,7 +116,7 @@ row r t = record { refusal = r; test = t }
 abbrev rows : List Row
 rows =
     row ShortSheet shortSheet ∷ row WrongKind wrongKind ∷ row BadBody badBody ∷ row TooMany tooMany ∷ row NoCode noCode ∷ row NoSuchSlot noSuchSlot ∷
-    row NoSuchTarget noSuchTarget ∷ []
+    row NoSuchTarget noSuchTarget ∷ row ParameterTwice parameterTwice ∷ []
 
 abbrev tests : List Row → List Test
 tests [] = []
@@ -318,6 +322,10 @@ module _ (s : List ℕ) (id : ℕ) where
 
   pub row-8 : (decode s ≡ refused 8 id) ↔ FirstBad noSuchTarget (shortSheet ∷ wrongKind ∷ badBody ∷ tooMany ∷ noCode ∷ noSuchSlot ∷ []) s id
   row-8 = row-exact NoSuchTarget noSuchTarget (take 6 rows) (drop 7 rows) refl refl refl refl s id
+
+  pub row-17 : (decode s ≡ refused 17 id)
+      ↔ FirstBad parameterTwice (shortSheet ∷ wrongKind ∷ badBody ∷ tooMany ∷ noCode ∷ noSuchSlot ∷ noSuchTarget ∷ []) s id
+  row-17 = row-exact ParameterTwice parameterTwice (take 7 rows) (drop 8 rows) refl refl refl refl s id
 
   -- 4 and 9 are given by no record
   record-never : (r : Refusal) → away r rows ≡ true → firstBad s (dues s) 0 ≡ some r → ⊥

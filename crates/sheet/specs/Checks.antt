@@ -28,7 +28,7 @@ pub record Checks (s : List ℕ) (r : Checked) : Type 0 where
   pub answer : r ≡ checkedOf s
   -- in document 01's numbers that is what the sheet means
   pub outcome : outcomeOf s r ≡ decode s
-  -- each of 1 to 9 exactly if the refusal table says so, and no other number
+  -- each of 1 to 9 and 17 exactly if the refusal table says so, and no other number
   pub table : Table s (outcomeOf s r)
   -- and each offset of a script lies in the sheet
   pub inside : (x : Script) → r ≡ Passed x → Inside s x

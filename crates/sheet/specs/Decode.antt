@@ -1,4 +1,4 @@
--- A sheet's parts, or why it is refused: document 01, "The sheet" and "Refusal table", rows 1 to 9.
+-- A sheet's parts, or why it is refused: document 01, "The sheet" and "Refusal table", rows 1 to 9, and 17 of request 2.
 use mathlib.Core.Bool.{Bool, _||_, not}
 use mathlib.Core.List.{List, [], _∷_, _++_}
 use mathlib.Core.Option.{Option, none, some}
@@ -39,7 +39,7 @@ dues s = function ∷ parameters ∷ (replicate (slotsIn s) slot ++ replicate (c
 unfoldable pub sizesFault : ℕ → ℕ → Option Refusal
 sizesFault slots n = due (ltb 65536 slots || ltb 65536 n) TooMany (due (eqb n 0) NoCode none)
 
--- the refusal that is due for the record at an offset: the least number of 1, 2, 3, 5, 6, 7, 8
+-- the refusal that is due for the record at an offset: the least number of 1, 2, 3, 5, 6, 7, 8, 17
 unfoldable pub faultAt : List ℕ → Due → ℕ → Option Refusal
 faultAt s function at = orElse (functionFault s at) (sizesFault (slotsIn s) (countIn s))
 faultAt s parameters at = parametersFault s (slotsIn s) at

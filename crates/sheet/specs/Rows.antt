@@ -1,14 +1,15 @@
--- The refusal table of document 01, rows 1 to 9, row by row: what it says of the record that is due at an offset, and that each number is given
+-- The refusal table of document 01, rows 1 to 9 and 17, row by row: what it says of the record that is due at an offset, and that each number is given
 -- exactly if its row says so (`Table`, a field of the contract of `check`).
 use mathlib.Core.Path.{_≡_}
 use mathlib.Core.Bool.{Bool, true, false, _||_, not}
 use mathlib.Core.List.{List, [], _∷_}
-use mathlib.Core.Logic.{_↔_}
+use mathlib.Core.Logic.{_⊎_, _↔_}
 use mathlib.Core.Option.{none}
 use Prim.Native.Nat.{ℕ, _+_, _-_, _%_, _≤_, _<_}
 use lib.Dec.{eqb, ltb}
 use lib.ListN.{length, getD}
 use Rattle.operands.specs.Kinds.{endsBlock}
+use Rattle.repeats.specs.Repeats.{anyTwice}
 use Rattle.format.specs.Heads.{short, kindAt, endAt, bodyLength, fieldsAt}
 use Rattle.format.specs.Fields.{noSlot, noTarget, anyField, anyAbove}
 use Rattle.records.specs.Records.{badSlot, isInstruction, badInstruction}
@@ -81,6 +82,13 @@ noSuchTarget s parameters at = false
 noSuchTarget s slot at = false
 noSuchTarget s instruction at = anyField (noTarget (countIn s)) (kindAt s at) 0 (fieldsAt s at)
 
+-- 17, parameter twice: a slot is named a second time
+abbrev pub parameterTwice : Test
+parameterTwice s function at = false
+parameterTwice s parameters at = anyTwice (fieldsAt s at)
+parameterTwice s slot at = false
+parameterTwice s instruction at = false
+
 -- the k-th record that is due, and where it stands
 abbrev pub dueAt : List ℕ → ℕ → Due
 dueAt s k = getD (dues s) k function
@@ -119,13 +127,14 @@ pub record OpenEndGiven (s : List ℕ) (id : ℕ) : Type 0 where
   pub open-end : endsBlock (kindAt s (instructionAt s (countIn s - 1))) ≡ false
   pub carries : id ≡ idOf s
 
--- and a sheet has parts exactly if none of the nine is given
+-- and a sheet has parts exactly if none of these is given
 pub record PassedGiven (s : List ℕ) : Type 0 where
   pub passed : (j : ℕ) → j < length (dues s) → Passes s j
   pub no-more : instructionAt s (countIn s) ≡ length s
   pub closed-end : endsBlock (kindAt s (instructionAt s (countIn s - 1))) ≡ true
 
--- The table, of an answer o in document 01's numbers: "given exactly if". The first bad record decides; within it 1, 2, 3, 5, 6, 7, 8. Then 4, then 9.
+-- The table, of an answer o in document 01's numbers: "given exactly if". The first bad record decides; within it 1, 2, 3, 5, 6, 7, 8,
+-- 17. Then 4, then 9.
 pub record Table (s : List ℕ) (o : Decoded) : Type 0 where
   pub row-1 : (id : ℕ) → (o ≡ refused 1 id) ↔ FirstBad shortSheet [] s id
   pub row-2 : (id : ℕ) → (o ≡ refused 2 id) ↔ FirstBad wrongKind (shortSheet ∷ []) s id
@@ -136,7 +145,9 @@ pub record Table (s : List ℕ) (o : Decoded) : Type 0 where
   pub row-7 : (id : ℕ) → (o ≡ refused 7 id) ↔ FirstBad noSuchSlot (shortSheet ∷ wrongKind ∷ badBody ∷ tooMany ∷ noCode ∷ []) s id
   pub row-8 : (id : ℕ) → (o ≡ refused 8 id) ↔ FirstBad noSuchTarget (shortSheet ∷ wrongKind ∷ badBody ∷ tooMany ∷ noCode ∷ noSuchSlot ∷ []) s id
   pub row-9 : (id : ℕ) → (o ≡ refused 9 id) ↔ OpenEndGiven s id
+  pub row-17 : (id : ℕ) → (o ≡ refused 17 id)
+      ↔ FirstBad parameterTwice (shortSheet ∷ wrongKind ∷ badBody ∷ tooMany ∷ noCode ∷ noSuchSlot ∷ noSuchTarget ∷ []) s id
   -- a sheet that has parts passed
   pub passes : (o ≡ parts (partsOf s)) ↔ PassedGiven s
-  -- and a sheet gives no other number: none of 10 to 15
-  pub numbers : (number id : ℕ) → o ≡ refused number id → (1 ≤ number) × (number ≤ 9)
+  -- and a sheet gives no other number: none of 10 to 16
+  pub numbers : (number id : ℕ) → o ≡ refused number id → (1 ≤ number) × ((number ≤ 9) ⊎ (number ≡ 17))

@@ -1,4 +1,4 @@
-// The checks 1 to 9 of a sheet, stage by stage, each ending in a call of the next.
+// The sheet checks, 1 to 9 and 17, stage by stage, each ending in a call of the next.
 pub mod script;
 pub mod walk;
 
@@ -134,7 +134,7 @@ fn function_record(s: &[u8]) -> Step
     reader::due_at(s, record::FUNCTION, 0, 0, 0)
 }
 
-// The checks 1 to 9. The function's id is 0 until the function record has passed 1 to 3.
+// The sheet checks, 1 to 9 and 17. The function's id is 0 until the function record has passed 1 to 3.
 pub fn check(s: &[u8]) -> Checked
     ensures { λ r. ⌜ Checks (now (s .entry)) r ⌝ }
 {

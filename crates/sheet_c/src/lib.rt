@@ -1,4 +1,4 @@
-// The checks 1 to 9 of a sheet for hosts in C and Rust.
+// The sheet checks, 1 to 9 and 17, for hosts in C and Rust.
 use sheet::script::Checked;
 ghost use mathlib.Core.Path.{_≡_};
 ghost use Rattle.sheet.specs.Scripts.{checkedOf};
@@ -51,7 +51,7 @@ fn facts_of(c: Checked) -> SheetFacts
     }
 }
 
-// The checks 1 to 9 of a sheet.
+// The sheet checks, 1 to 9 and 17.
 #[no_mangle]
 pub extern "C" fn kagari_sheet_check(sheet: &[u8]) -> SheetFacts
     ensures { λ r. ⌜ r ≡ factsOf (checkedOf (now (sheet .entry))) ⌝ }

@@ -1,5 +1,6 @@
 //! The scripts that times are measured on.
 
+use compare::parameters::MOST;
 use compare_flow::generate::shapes::{SHAPES, Shape, script, sparse};
 use kagari_oracle::Script;
 use kagari_oracle::cases::host;
@@ -47,6 +48,7 @@ pub fn table() -> Vec<Class> {
         }
     }
     classes.push(hosts());
+    classes.push(parameters());
     classes
 }
 
@@ -63,6 +65,20 @@ fn hosts() -> Class {
         name: format!("hosts-{count}-{slots}"),
         shape: "awaits",
         script,
+    }
+}
+
+/// The straight script with very many slots, of which as many are parameters as a record
+/// can name.
+fn parameters() -> Class {
+    let (count, slots) = (COUNTS[0], MOST_SLOTS);
+    Class {
+        name: format!("parameters-{count}-{slots}"),
+        shape: "straight",
+        script: Script {
+            parameters: (0..MOST).collect(),
+            ..script(Shape::Straight, count, slots)
+        },
     }
 }
 

@@ -12,10 +12,12 @@ use std::process::ExitCode;
 use std::{env, fs};
 
 const USAGE: &str = "usage: bench [--svg FILE]
+       bench --only CLASS
        bench --once CLASS [ours | rust]
 
-Without --once: times all classes, prints a table in Markdown, and writes a plot to FILE.
-With it: makes one call of a class, for a counter of instructions.
+Times all classes, prints a table in Markdown, and writes a plot to FILE.
+With --only: times one class, and prints its row.
+With --once: makes one call of a class, for a counter of instructions.
 The classes are SHAPE-INSTRUCTIONS-SLOTS, as branchy-4096-8.";
 
 /// The colours of the shapes.
@@ -28,6 +30,7 @@ const COLORS: [(&str, &str); 4] = [
 
 enum Command {
     All { svg: Option<String> },
+    Only { class: String },
     Once { class: String, ours: bool },
 }
 
@@ -39,6 +42,7 @@ fn main() -> ExitCode {
     };
     let done = match command {
         Command::All { svg } => all(svg.as_deref()),
+        Command::Only { class } => only(&class),
         Command::Once { class, ours } => once(&class, ours),
     };
     match done {
@@ -63,15 +67,35 @@ fn command(arguments: &[String]) -> Option<Command> {
         ["--svg", path] => Some(Command::All {
             svg: Some(path.to_string()),
         }),
+        ["--only", class] => Some(Command::Only {
+            class: class.to_string(),
+        }),
         ["--once", class] | ["--once", class, "ours"] => once(class, true),
         ["--once", class, "rust"] => once(class, false),
         _ => None,
     }
 }
 
+fn named(name: &str) -> Result<Class, String> {
+    classes::named(name).ok_or_else(|| format!("there is no class {name}"))
+}
+
+/// Times one class.
+fn only(name: &str) -> Result<(), String> {
+    let class = named(name)?;
+    let (size, times) = measure(&class);
+    println!("{}", row(&COLUMNS));
+    println!("{}", row(&["---"; COLUMNS.len()]));
+    println!("{}", row(&cells(&class, &size, &times)));
+    if size.parameters > MANY {
+        println!("\n{}", of_parameters(name, &size, &times));
+    }
+    Ok(())
+}
+
 /// Makes one call.
 fn once(name: &str, ours: bool) -> Result<(), String> {
-    let class = classes::named(name).ok_or_else(|| format!("there is no class {name}"))?;
+    let class = named(name)?;
     let mut subject = Subject::new(&class);
     let work = if ours { subject.ours() } else { subject.rust() };
     println!("{name}: {:?}", subject.size);
@@ -88,7 +112,12 @@ fn all(svg: Option<&str>) -> Result<(), String> {
         println!("{}", row(&cells(&class, &size, &times)));
         measured.insert(class.name, (size, times));
     }
-    println!("\n{NOTES}");
+    println!("\n{NOTES}\n");
+    for (name, (size, times)) in &measured {
+        if size.parameters > MANY {
+            println!("{}", of_parameters(name, size, times));
+        }
+    }
     if let Some(path) = svg {
         let plot = plot::svg(&panels(&measured));
         fs::write(path, plot).map_err(|error| format!("{path}: {error}"))?;
@@ -109,6 +138,21 @@ starts from the bytes of the sheet: its time has the sheet checks in it, and the
 of the lent buffers, which hold the answer of the call before. The Rust starts from its
 own structures and allocates and frees what it needs; \"+ decode\" is the Rust from the
 bytes, read by the plain reader of the comparisons, which is not written for speed.";
+
+/// From so many parameters on, times are told for each of them too.
+const MANY: usize = 100;
+
+/// The times for each parameter, the whole call counted.
+fn of_parameters(name: &str, size: &Size, times: &Times) -> String {
+    let each = |time: f64| time / size.parameters as f64;
+    format!(
+        "{name}: {} parameters; a parameter, the whole call counted, takes ours {:.2} ns, the Rust {:.2} ns, + decode {:.2} ns",
+        size.parameters,
+        each(times.ours),
+        each(times.rust),
+        each(times.rust_from_bytes)
+    )
+}
 
 /// The columns of the table: sizes, times of a call in µs, times for each instruction and
 /// for each unit of work in ns, and ratios.

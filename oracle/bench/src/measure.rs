@@ -37,6 +37,8 @@ pub struct Size {
     pub count: usize,
     /// w.
     pub words: usize,
+    /// The parameters.
+    pub parameters: usize,
     /// B.
     pub blocks: usize,
     /// The edges between blocks.
@@ -150,6 +152,7 @@ fn size(class: &Class, expected: &Outcome) -> Size {
     Size {
         count: class.script.code.len(),
         words: slots.div_ceil(64),
+        parameters: class.script.parameters.len(),
         blocks: expected.blocks.len(),
         edges: edges.sum::<u32>() as usize,
         awaits: expected.answer.awaits as usize,

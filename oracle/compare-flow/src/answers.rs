@@ -4,10 +4,11 @@
 use crate::expected::{Known, Lengths, Outcome};
 use crate::flow_c::Answer;
 use crate::generate::family;
-use crate::report::{NAMES, NUMBERS};
+use crate::report::{NUMBERS, name};
 use compare::random::Random;
 use kagari_oracle::Budget;
 use std::collections::BTreeSet;
+use std::ops::RangeInclusive;
 
 const HEAD: &str = "\
 # What replay is run on; stdout has the answers. First document 01's cases, which are written by hand (answers/cases.in and cases.out), then a
@@ -28,15 +29,15 @@ const MOST: Lengths = Lengths {
 struct Part {
     /// The families that it is drawn from.
     families: &'static [&'static str],
-    /// The bytes of its longest sheet.
-    longest: usize,
+    /// How many bytes its sheets have.
+    bytes: RangeInclusive<usize>,
     /// The fewest slots of a sheet.
     slots: usize,
-    /// How many calls of each number it has. 11 asks for longer sheets.
+    /// How many calls of each number it has. 11 asks for longer sheets, and there is no 16.
     calls: [usize; NUMBERS],
 }
 
-const PARTS: [Part; 3] = [
+const PARTS: [Part; 4] = [
     Part {
         families: &[
             "small",
@@ -44,28 +45,36 @@ const PARTS: [Part; 3] = [
             "graphs",
             "awaits",
             "any",
+            "parameters",
             "spoiled",
             "damaged",
             "noise",
         ],
-        longest: 200,
+        bytes: 0..=200,
         slots: 0,
         calls: [
-            100, 20, 25, 40, 20, 12, 12, 40, 25, 20, 50, 0, 50, 50, 20, 20,
+            100, 20, 25, 40, 20, 12, 12, 40, 25, 20, 50, 0, 50, 50, 20, 20, 0, 40,
         ],
     },
     Part {
         families: &["awaits"],
-        longest: 200,
+        bytes: 0..=200,
         slots: 0,
-        calls: [60, 0, 0, 0, 0, 0, 0, 0, 0, 0, 20, 0, 20, 10, 30, 30],
+        calls: [60, 0, 0, 0, 0, 0, 0, 0, 0, 0, 20, 0, 20, 10, 30, 30, 0, 0],
     },
     // Sets of more than one word.
     Part {
         families: &["structured", "graphs", "awaits"],
-        longest: 1_000,
+        bytes: 0..=1_000,
         slots: 65,
-        calls: [20, 0, 0, 0, 0, 0, 0, 0, 0, 0, 5, 0, 5, 5, 5, 5],
+        calls: [20, 0, 0, 0, 0, 0, 0, 0, 0, 0, 5, 0, 5, 5, 5, 5, 0, 0],
+    },
+    // Longer lists of parameters, some of more than 32.
+    Part {
+        families: &["parameters"],
+        bytes: 500..=1_000,
+        slots: 0,
+        calls: [10, 0, 0, 0, 0, 0, 0, 5, 0, 0, 0, 0, 0, 0, 0, 0, 0, 20],
     },
 ];
 
@@ -79,7 +88,7 @@ pub fn texts() -> [String; 2] {
     for (place, call) in sample().iter().enumerate() {
         let number = call.outcome.answer.number;
         if numbers.insert(number) {
-            let name = NAMES[number as usize];
+            let name = name(number);
             stdin.push_str(&format!("\n# the sample: {number}, {name}\n"));
         }
         let name = format!("s{:03}", place + 1);
@@ -172,7 +181,7 @@ fn sample() -> Vec<Call> {
 fn draw(random: &mut Random, name: &str, part: &Part) -> Option<Call> {
     let family = family(name);
     let sheet = (family.draw)(random);
-    if sheet.len() > part.longest {
+    if !part.bytes.contains(&sheet.len()) {
         return None;
     }
     let known = Known::new(&sheet);

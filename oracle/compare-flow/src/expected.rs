@@ -1,7 +1,7 @@
 //! What must come out of a call, from the Rust: the answer, and every lent buffer
 //! whole.
 //!
-//! The sheet checks 1 to 9 are those of the plain reader, the judging is that of
+//! The sheet checks 1 to 9 and 17 are those of the plain reader, the judging is that of
 //! kagari's own code. Between them and inside it stand the two tens of document 01:
 //!
 //! 1. the sheet checks, with the budget as given;

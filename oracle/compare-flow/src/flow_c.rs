@@ -24,7 +24,7 @@ pub struct Block {
 #[repr(C)]
 #[derive(Debug, Clone, Copy, PartialEq, Eq, Default)]
 pub struct Answer {
-    /// 0 if the script is accepted, or the number of its refusal, 1 to 15.
+    /// 0 if the script is accepted, or the number of its refusal, 1 to 15 or 17.
     pub number: u32,
     /// The function's id.
     pub function: u32,

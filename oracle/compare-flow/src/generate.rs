@@ -2,6 +2,7 @@
 
 mod graphs;
 pub mod large;
+mod parameters;
 pub mod shapes;
 mod small;
 mod structured;
@@ -30,7 +31,7 @@ pub struct Family {
 }
 
 /// All families.
-pub const FAMILIES: [Family; 13] = [
+pub const FAMILIES: [Family; 14] = [
     Family {
         name: "small",
         share: 2_400,
@@ -39,13 +40,13 @@ pub const FAMILIES: [Family; 13] = [
     },
     Family {
         name: "structured",
-        share: 2_400,
+        share: 2_450,
         draw: |random| sheet(&structured::script(random)),
         plans: |random, known| plans(random, known, 4),
     },
     Family {
         name: "graphs",
-        share: 1_600,
+        share: 1_650,
         draw: |random| sheet(&graphs::script(random)),
         plans: |random, known| plans(random, known, 4),
     },
@@ -65,6 +66,12 @@ pub const FAMILIES: [Family; 13] = [
         name: "long lists",
         share: 40,
         draw: |random| sheet(&structured::long_lists(random)),
+        plans: |random, known| plans(random, known, 2),
+    },
+    Family {
+        name: "parameters",
+        share: 60,
+        draw: |random| sheet(&parameters::script(random)),
         plans: |random, known| plans(random, known, 2),
     },
     Family {

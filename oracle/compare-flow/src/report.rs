@@ -5,28 +5,42 @@ use crate::plan::Plan;
 use compare::hex::hex;
 use std::fmt::{self, Display, Formatter};
 
-/// The numbers that an answer can have: 0 and the refusals 1 to 15.
-pub const NUMBERS: usize = 16;
+/// The numbers that an answer can have are below this: 0 and the refusals 1 to 15 and 17.
+pub const NUMBERS: usize = 18;
 
-/// The names of the answers' numbers, as document 01 has them.
-pub const NAMES: [&str; NUMBERS] = [
-    "accepted",
-    "short sheet",
-    "wrong kind",
-    "bad body",
-    "left over",
-    "too many",
-    "no code",
-    "no such slot",
-    "no such target",
-    "open end",
-    "no room",
-    "state limit",
-    "work limit",
-    "unfilled slot",
-    "host over await",
-    "facts limit",
+/// The numbers that an answer can have, with the names that document 01 and request 2 give
+/// them. None has the number 16.
+pub const NAMES: [(u32, &str); 17] = [
+    (0, "accepted"),
+    (1, "short sheet"),
+    (2, "wrong kind"),
+    (3, "bad body"),
+    (4, "left over"),
+    (5, "too many"),
+    (6, "no code"),
+    (7, "no such slot"),
+    (8, "no such target"),
+    (9, "open end"),
+    (10, "no room"),
+    (11, "state limit"),
+    (12, "work limit"),
+    (13, "unfilled slot"),
+    (14, "host over await"),
+    (15, "facts limit"),
+    (17, "parameter twice"),
 ];
+
+/// The name of a number.
+///
+/// # Panics
+///
+/// If no answer has it.
+pub fn name(number: u32) -> &'static str {
+    let found = NAMES.iter().find(|&&(named, _)| named == number);
+    found
+        .unwrap_or_else(|| panic!("no answer has the number {number}"))
+        .1
+}
 
 /// Size classes: a sheet is in the first whose bytes it does not reach.
 const SIZES: [(usize, &str); 5] = [
@@ -102,7 +116,8 @@ impl Display for Report {
         let heads = SIZES.iter().map(|(_, name)| format!("{name:>10}"));
         let heads: String = heads.collect();
         writeln!(f, "{:<19}{heads}{:>11}", "answer", "all")?;
-        for (number, (row, name)) in self.table.iter().zip(NAMES).enumerate() {
+        for (number, name) in NAMES {
+            let row = &self.table[number as usize];
             let cells: String = row.iter().map(|calls| format!("{calls:>10}")).collect();
             let all: u64 = row.iter().sum();
             writeln!(f, "{number:>2} {name:<16}{cells}{all:>11}")?;

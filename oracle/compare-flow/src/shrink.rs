@@ -8,6 +8,7 @@ use compare::damage::records;
 use compare::reader::read;
 use kagari_oracle::cases::{jump, load_const, plain};
 use kagari_oracle::{ABSENT, Field, Instruction, Script, Type, pattern, sheet};
+use std::collections::BTreeSet;
 use std::iter;
 use std::ops::Range;
 use std::time::{Duration, Instant};
@@ -108,7 +109,11 @@ impl Shrinker<'_> {
             }
         }
         for place in 0..script.parameters.len() {
-            helped |= self.edit(|script| script.parameters[place] = 0);
+            helped |= self.edit(|script| {
+                // The lowest that is not named yet: a slot named twice is another matter.
+                let free = (0..).find(|slot| !script.parameters.contains(slot));
+                script.parameters[place] = free.expect("a number");
+            });
         }
         for (place, instruction) in script.code.iter().enumerate() {
             for simple in simpler(instruction, place as u32) {
@@ -275,7 +280,8 @@ fn without_instructions(bytes: &[u8], range: Range<usize>) -> Option<Vec<u8>> {
     Some(sheet(&script))
 }
 
-/// Leaves out slots; what reads or writes them takes the one that comes next.
+/// Leaves out slots; what reads or writes them takes the one that comes next, and so do
+/// parameters, each slot being named once.
 fn without_slots(bytes: &[u8], range: Range<usize>) -> Option<Vec<u8>> {
     const SLOTS: [Field; 5] = [
         Field::Output,
@@ -290,9 +296,13 @@ fn without_slots(bytes: &[u8], range: Range<usize>) -> Option<Vec<u8>> {
     for instruction in &mut script.code {
         renumber(instruction, &SLOTS, &range, last);
     }
-    for parameter in &mut script.parameters {
-        *parameter = moved(*parameter, &range, last);
-    }
+    let mut named = BTreeSet::new();
+    script.parameters = script
+        .parameters
+        .iter()
+        .map(|&parameter| moved(parameter, &range, last))
+        .filter(|&parameter| named.insert(parameter))
+        .collect();
     Some(sheet(&script))
 }
 

@@ -4,6 +4,7 @@
 use compare_flow::answers::{printed, texts};
 use compare_flow::expected::{Lengths, expected};
 use compare_flow::lent::called;
+use compare_flow::report::{NAMES, NUMBERS};
 use kagari_oracle::cases::case_n;
 use kagari_oracle::{Budget, sheet};
 
@@ -24,7 +25,7 @@ fn the_files_are_up_to_date() {
 /// are left out.
 #[test]
 fn the_port_and_the_rust_answer_the_same() {
-    let mut numbers = [0; 16];
+    let mut numbers = [0; NUMBERS];
     let mut answers = STDOUT.lines();
     for line in STDIN.lines() {
         if line.is_empty() || line.starts_with('#') {
@@ -42,7 +43,8 @@ fn the_port_and_the_rust_answer_the_same() {
     }
     assert_eq!(answers.next(), None);
     assert!(numbers.iter().sum::<u32>() >= 600, "{numbers:?}");
-    assert!(numbers.iter().all(|&times| times > 0), "{numbers:?}");
+    let came_up = |&(number, _): &(u32, _)| numbers[number as usize] > 0;
+    assert!(NAMES.iter().all(came_up), "{numbers:?}");
 }
 
 /// The call that a line asks for.

@@ -17,7 +17,7 @@ use kagari_oracle::{Budget, Script, SlotType, Type, sheet};
 const SEED: u64 = 20_250_301;
 
 /// The numbers of the sheet checks.
-const SHEET_CHECKS: std::ops::RangeInclusive<u32> = 1..=9;
+const SHEET_CHECKS: [u32; 10] = [1, 2, 3, 4, 5, 6, 7, 8, 9, 17];
 
 /// Numbers that most families of scripts give.
 const FLOW: [u32; 4] = [0, 10, 12, 13];
@@ -41,6 +41,7 @@ fn all_families() {
     let report = shown("all families", run(SEED, 25_000, |_| {}));
     report.hold(0..=10, 200);
     report.hold(12..=15, 200);
+    report.hold([17], 200);
     // A sheet for 11 is large.
     report.hold([11], 40);
 }
@@ -86,6 +87,13 @@ fn long_lists() {
 }
 
 #[test]
+fn parameters() {
+    let report = family_of("parameters", 4_000);
+    report.hold([0, 10, 12, 17], 500);
+    report.hold([7, 13], 100);
+}
+
+#[test]
 fn any() {
     let report = family_of("any", 15_000);
     report.hold(FLOW, 200);
@@ -94,12 +102,12 @@ fn any() {
 #[test]
 fn spoiled() {
     let report = family_of("spoiled", 30_000);
-    report.hold([2, 3, 6, 7, 8, 9], 1_000);
+    report.hold([2, 3, 6, 7, 8, 9, 17], 1_000);
 }
 
 #[test]
 fn damaged() {
-    let report = family_of("damaged", 30_000);
+    let report = family_of("damaged", 40_000);
     report.hold(SHEET_CHECKS, 10);
     report.hold([1, 2, 3, 4, 7, 8], 500);
 }
@@ -262,12 +270,12 @@ fn sheet_checks(families: &[(&str, sheets::Family)]) -> Report {
 
 #[test]
 fn sheet_checks_first_half() {
-    sheet_checks(&sheets::FAMILIES[..7]).hold([1, 2, 3, 5, 6, 7, 8], 300);
+    sheet_checks(&sheets::FAMILIES[..8]).hold([1, 2, 3, 5, 6, 7, 8, 17], 300);
 }
 
 #[test]
 fn sheet_checks_second_half() {
-    sheet_checks(&sheets::FAMILIES[7..]).hold(SHEET_CHECKS, 300);
+    sheet_checks(&sheets::FAMILIES[8..]).hold(SHEET_CHECKS, 300);
 }
 
 // Document 01, "Sheets to try", through the call.

@@ -4,7 +4,7 @@
 #[repr(C)]
 #[derive(Debug, Clone, Copy, PartialEq, Eq, Default)]
 pub struct SheetFacts {
-    /// 0 if the sheet passes, or the number of its refusal, 1 to 9. After a refusal
+    /// 0 if the sheet passes, or the number of its refusal, 1 to 9 or 17. After a refusal
     /// all but this and the id is 0.
     pub number: u64,
     /// The function's id.

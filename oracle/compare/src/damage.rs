@@ -30,6 +30,9 @@ pub fn spoil(random: &mut Random, script: &mut Script) {
                 *field = edge;
             }
         }
+        4 if random.once_in(2) && !script.parameters.is_empty() => {
+            repeat(random, &mut script.parameters);
+        }
         4 => {
             let edge = random.pick(&edges);
             if let Some(parameter) = any(random, &mut script.parameters) {
@@ -59,6 +62,13 @@ pub fn spoil(random: &mut Random, script: &mut Script) {
         8 => drop(script.slots.pop()),
         _ => script.code.push(Instruction::new(13, [ABSENT, ABSENT])),
     }
+}
+
+/// Names one of the parameters a second time, at any place.
+pub fn repeat(random: &mut Random, parameters: &mut Vec<u32>) {
+    let again = random.pick(parameters);
+    let place = random.below(parameters.len() + 1);
+    parameters.insert(place, again);
 }
 
 /// Does one thing to the bytes of a sheet that may make it one to refuse.

@@ -5,6 +5,7 @@
 pub mod damage;
 pub mod hex;
 pub mod operands_c;
+pub mod parameters;
 pub mod random;
 pub mod reader;
 pub mod scripts;

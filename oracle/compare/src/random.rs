@@ -39,6 +39,22 @@ impl Random {
         these[self.below(these.len())]
     }
 
+    /// So many different numbers below a bound, in any order.
+    ///
+    /// # Panics
+    ///
+    /// If there are not so many.
+    pub fn distinct(&mut self, count: u32, bound: u32) -> Vec<u32> {
+        assert!(count <= bound, "{count} numbers below {bound}");
+        let mut numbers: Vec<u32> = (0..bound).collect();
+        for place in 0..count as usize {
+            let other = place + self.below(numbers.len() - place);
+            numbers.swap(place, other);
+        }
+        numbers.truncate(count as usize);
+        numbers
+    }
+
     /// A place below a length that is not zero.
     pub fn below(&mut self, length: usize) -> usize {
         (self.bits() % length as u64) as usize

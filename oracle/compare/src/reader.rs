@@ -1,7 +1,8 @@
 //! A plain reader of sheets, written from document 01 alone: "The sheet", and rows 1 to
-//! 9 of the "Refusal table".
+//! 9 of the "Refusal table"; and from request 2: row 17.
 
 use kagari_oracle::{ABSENT, Field, Instruction, Script, SlotType, Type, pattern};
+use std::collections::BTreeSet;
 use std::iter;
 
 /// A sheet that passes: what it says, and where.
@@ -24,7 +25,7 @@ pub struct Read {
 /// A sheet that is refused.
 #[derive(Debug, Clone, Copy, PartialEq, Eq)]
 pub struct Refused {
-    /// The row of the refusal table, 1 to 9.
+    /// The row of the refusal table, 1 to 9 or 17.
     pub number: u32,
     /// The function's id, 0 until the function record has passed 1 to 3.
     pub id: u32,
@@ -40,6 +41,7 @@ const NO_CODE: u32 = 6;
 const NO_SUCH_SLOT: u32 = 7;
 const NO_SUCH_TARGET: u32 = 8;
 const OPEN_END: u32 = 9;
+const PARAMETER_TWICE: u32 = 17;
 
 // The kinds of the records that are no instructions.
 const FUNCTION: u16 = 256;
@@ -59,7 +61,7 @@ const HIGHEST_MODULE_SLOT: u32 = 65_535;
 const DEEPEST: usize = 16;
 
 /// Reads a sheet, record by record. The first bad record decides, and within a record
-/// the number that stands first in 1, 2, 3, 5, 6, 7, 8; then 4, then 9.
+/// the number that stands first in 1, 2, 3, 5, 6, 7, 8, 17; then 4, then 9.
 pub fn read(sheet: &[u8]) -> Result<Read, Refused> {
     let mut left = sheet;
     let [id, slots, count] =
@@ -145,6 +147,10 @@ fn parameter_record(left: &mut &[u8], slots: u32) -> Result<Vec<u32>, u32> {
     let parameters = numbers(body).ok_or(BAD_BODY)?;
     if parameters.iter().any(|&slot| slot >= slots) {
         return Err(NO_SUCH_SLOT);
+    }
+    let different: BTreeSet<u32> = parameters.iter().copied().collect();
+    if different.len() < parameters.len() {
+        return Err(PARAMETER_TWICE);
     }
     Ok(parameters)
 }

@@ -11,15 +11,19 @@ const WITHOUT_SLOTS: [u16; 5] = [12, 13, 38, 40, 41];
 
 /// A script with up to some hundreds of slots, parameters and instructions.
 pub fn script(random: &mut Random) -> Script {
-    let slots = size(random, 0);
+    let mut slots = size(random, 0);
     let count = size(random, 1);
     let parameters = if slots == 0 { 0 } else { size(random, 0) };
+    // No slot may be named twice: a list that is too long gets more slots, or is cut.
+    if parameters > slots && random.once_in(2) {
+        slots = parameters;
+    }
     let kinds = (1..=count).map(|place| kind(random, slots, place == count));
     let kinds: Vec<u16> = kinds.collect();
     Script {
         id: random.bits() as u32,
         slots: (0..slots).map(|_| slot_type(random)).collect(),
-        parameters: (0..parameters).map(|_| slot(random, slots)).collect(),
+        parameters: different(random, parameters.min(slots), slots),
         code: kinds
             .into_iter()
             .map(|kind| instruction(random, kind, slots, count))
@@ -99,6 +103,16 @@ fn kind(random: &mut Random, slots: u32, last: bool) -> u16 {
             return kind;
         }
     }
+}
+
+/// So many different slots below the count, often with the highest.
+fn different(random: &mut Random, many: u32, slots: u32) -> Vec<u32> {
+    let mut found = random.distinct(many, slots);
+    if !found.is_empty() && random.once_in(2) && !found.contains(&(slots - 1)) {
+        let place = random.below(found.len());
+        found[place] = slots - 1;
+    }
+    found
 }
 
 /// A slot below the count, often the highest.

@@ -1,7 +1,8 @@
 //! The sheets on which sheet checks are compared, the same in every run. Some pass,
-//! and each of the numbers 1 to 9 comes up often.
+//! and each of the numbers 1 to 9 and 17 comes up often.
 
 use crate::damage::{damage, spoil};
+use crate::parameters::{MOST, MOST_SLOTS, lengths, pairs, sheet_of, twice};
 use crate::random::Random;
 use crate::scripts;
 use kagari_oracle::cases::*;
@@ -15,13 +16,14 @@ pub type Check<'a> = dyn FnMut(&[u8], Arguments) + 'a;
 pub type Family = fn(&mut Check);
 
 /// All families, by name.
-pub const FAMILIES: [(&str, Family); 14] = [
+pub const FAMILIES: [(&str, Family); 15] = [
     ("cuts", cuts),
     ("bytes", bytes),
     ("heads", heads),
     ("function records", function_records),
     ("types", types),
     ("operands", operands),
+    ("parameters", parameters),
     ("faults in one record", faults_in_one_record),
     ("faults in many records", faults_in_many_records),
     ("ends", ends),
@@ -306,6 +308,64 @@ fn operands(check: &mut Check) {
     }
 }
 
+/// Lists of parameters of all lengths in which all differ, or one slot is named twice,
+/// with all slots named, with some more, and with as many as there may be.
+fn parameters(check: &mut Check) {
+    for length in lengths() {
+        for more in [0, 1, 70] {
+            lists(check, length, length + more);
+        }
+    }
+    for length in [1, 2, 31, 32, 33, 34, 80, MOST] {
+        lists(check, length, MOST_SLOTS);
+    }
+    // Slots of one bit in words that lie all distances apart: no two are the same.
+    for length in [30, 1_024] {
+        for bit in [0, 1, 31, 32, 63] {
+            let list: Vec<u32> = (0..length).map(|word| 64 * word + bit).collect();
+            let name = format_args!("bit {bit} of {length} words");
+            check(&sheet_of(MOST_SLOTS, &list), name);
+        }
+    }
+}
+
+/// Lists of one length over so many slots.
+fn lists(check: &mut Check, length: u32, slots: u32) {
+    let mut checked = |list: &[u32], name: Arguments| {
+        let name = format_args!("{length} parameters of {slots} slots, {name}");
+        check(&sheet_of(slots, list), name);
+    };
+    let list = Random::new(length.into()).distinct(length, slots);
+    checked(&list, format_args!("all differ"));
+    let lowest: Vec<u32> = (0..length).collect();
+    checked(&lowest, format_args!("ascending"));
+    let highest: Vec<u32> = (slots - length..slots).rev().collect();
+    checked(&highest, format_args!("descending"));
+    for [one, other] in pairs(length) {
+        let name = format_args!("places {one} and {other}");
+        let twice = twice(&list, [one, other]);
+        checked(&twice, format_args!("{name} the same"));
+        // A slot that is none comes first, wherever it stands.
+        for (beyond, place) in [
+            (slots, 0),
+            (slots, list.len() - 1),
+            (ABSENT, list.len() / 2),
+        ] {
+            let mut none = twice.clone();
+            none[place] = beyond;
+            checked(&none, format_args!("{name} the same, {beyond} at {place}"));
+        }
+        let mut absent = list.clone();
+        absent[one] = ABSENT;
+        absent[other] = ABSENT;
+        checked(&absent, format_args!("{name} absent"));
+    }
+    if length > 1 {
+        let same = vec![slots - 1; length as usize];
+        checked(&same, format_args!("all the same"));
+    }
+}
+
 /// Each kind with each choice of fields out of bounds, with a body that is cut or has
 /// bytes added, as the first of two instructions and as the last.
 fn faults_in_one_record(check: &mut Check) {
@@ -352,6 +412,8 @@ fn faults_in_many_records(check: &mut Check) {
     let parameters = [
         record(PARAMETERS, &numbers(&[0])),
         record(PARAMETERS, &numbers(&[1])),
+        record(PARAMETERS, &numbers(&[0, 0])),
+        record(PARAMETERS, &numbers(&[0, 0, 1])),
         record(PARAMETERS, &[0, 0, 0]),
         record(SLOT, &numbers(&[1])),
     ];
@@ -522,19 +584,26 @@ fn longest(check: &mut Check) {
     const LENGTHS: [usize; 8] = [
         65_500, 65_528, 65_529, 65_530, 65_531, 65_532, 65_533, 16_384,
     ];
-    let head = record(FUNCTION, &numbers(&[7, 3, 2]));
-    let slots = record(SLOT, &[3, 0]).repeat(3);
+    let head = |slots| record(FUNCTION, &numbers(&[7, slots, 2]));
+    let slots = |count: u32| record(SLOT, &[3, 0]).repeat(count as usize);
     let end = record(40, &numbers(&[2]));
     let none = record(PARAMETERS, &[]);
     for length in LENGTHS {
         for fault in [None, Some(0), Some(length / 8), Some(length / 4 - 1)] {
             for kind in (1..=KINDS).chain([PARAMETERS]) {
-                let mut fields = vec![1; length.div_ceil(4)];
+                let many = length.div_ceil(4) as u32;
+                // Parameters differ; what an instruction reads need not.
+                let (count, mut fields): (u32, Vec<u32>) = if kind == PARAMETERS {
+                    (many, (0..many).rev().collect())
+                } else {
+                    (3, vec![1; many as usize])
+                };
                 if let Some(place) = fault {
-                    fields[place] = 3;
+                    fields[place] = count;
                 }
                 let body = &numbers(&fields)[..length];
                 let long = record(kind, body);
+                let (head, slots) = (head(count), slots(count));
                 let sheet = if kind == PARAMETERS {
                     [&head[..], &long, &slots, &end, &end].concat()
                 } else {

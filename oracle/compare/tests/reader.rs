@@ -1,6 +1,7 @@
 //! The plain reader on the sheets of document 01 and at the edges of its rules, and on
 //! all sheets of the comparisons.
 
+use compare::parameters::{lengths, pairs, sheet_of, twice};
 use compare::random::Random;
 use compare::reader::{Read, Refused, read};
 use compare::scripts;
@@ -256,6 +257,45 @@ fn order() {
     assert_eq!(left_over(&case_l()), 7);
 }
 
+/// 17 in the parameter record after 1, 2, 3 and 7, and before all that follows.
+#[test]
+fn parameter_twice() {
+    let with = |slots: u32, parameters: &[u32]| number_of(&sheet_of(slots, parameters), 7);
+    assert_eq!(with(2, &[0, 1]), 0);
+    assert_eq!(with(2, &[0, 0]), 17);
+    assert_eq!(with(2, &[1, 0, 1]), 17);
+    assert_eq!(with(2, &[0, 0, 2]), 7);
+    assert_eq!(with(2, &[2, 0, 0]), 7);
+    assert_eq!(with(2, &[2, 2]), 7);
+    assert_eq!(with(2, &[ABSENT, ABSENT]), 7);
+    assert_eq!(with(0, &[0, 0]), 7);
+
+    let head = [14, 0, 0, 1, 7, 0, 0, 0, 1, 0, 0, 0, 1, 0, 0, 0];
+    let zeros = [10, 0, 1, 1, 0, 0, 0, 0, 0, 0, 0, 0];
+    let after_head = |parameters: &[u8]| number_of(&[&head, parameters].concat(), 7);
+    assert_eq!(after_head(&zeros), 17);
+    assert_eq!(after_head(&[&zeros[..], &[0]].concat()), 17);
+    assert_eq!(after_head(&zeros[..11]), 1);
+    assert_eq!(after_head(&[&[10, 0, 2, 1], &zeros[4..]].concat()), 2);
+    assert_eq!(after_head(&[&[11, 0], &zeros[2..], &[0]].concat()), 3);
+    // The function record comes first.
+    let no_code = [&head[..12], &[0; 4], &zeros].concat();
+    assert_eq!(number_of(&no_code, 7), 6);
+}
+
+/// Of each length, lists in which all differ pass, and no other.
+#[test]
+fn lists_of_parameters() {
+    for length in lengths() {
+        let list = Random::new(length.into()).distinct(length, length + 1);
+        assert_eq!(number_of(&sheet_of(length + 1, &list), 7), 0, "{length}");
+        for places in pairs(length) {
+            let sheet = sheet_of(length + 1, &twice(&list, places));
+            assert_eq!(number_of(&sheet, 7), 17, "{length}, {places:?}");
+        }
+    }
+}
+
 /// What passes is laid out again as it was read; random scripts pass.
 #[test]
 fn scripts_come_back() {
@@ -272,7 +312,7 @@ fn scripts_come_back() {
 /// read.
 #[test]
 fn families() {
-    let mut numbers = [0; 10];
+    let mut numbers = [0; 18];
     for (name, family) in FAMILIES {
         family(&mut |bytes, description| match read(bytes) {
             Ok(read) => {
@@ -282,7 +322,9 @@ fn families() {
             Err(refused) => numbers[refused.number as usize] += 1,
         });
     }
-    for (number, &times) in numbers.iter().enumerate() {
+    for number in (0..=9).chain([17]) {
+        let times = numbers[number];
         assert!(times >= 1_000, "{number} came up {times} times");
     }
+    println!("{} sheets, {numbers:?}", numbers.iter().sum::<u32>());
 }

@@ -16,8 +16,8 @@
 //! assert_eq!(answer.budget.work, 32);
 //! ```
 //!
-//! The sheet checks (refusals 1 to 10) are the port's own: no Rust stands behind
-//! them, and none of the functions here makes them.
+//! The sheet checks (refusals 1 to 9 and 17) and 10 are the port's own: no Rust stands
+//! behind them, and none of the functions here makes them.
 
 #![warn(missing_docs)]
 

@@ -11,7 +11,7 @@ pub struct Script {
     pub id: u32,
     /// The types of the slots, by slot number.
     pub slots: Vec<SlotType>,
-    /// The parameter slots; repeats are allowed.
+    /// The parameter slots. The source takes repeats too; in a sheet they are refused.
     pub parameters: Vec<u32>,
     /// The instructions.
     pub code: Vec<Instruction>,

@@ -1,8 +1,9 @@
 //! What the source's flow module does alone, without the earlier verifiers that turn
-//! away what refusals 6 to 9 of document 01 name.
+//! away what refusals 6 to 9 of document 01 name, and what it does where request 2 gives
+//! refusal 17.
 
 use kagari_oracle::cases::*;
-use kagari_oracle::{Budget, Facts, Script, function, verify, verify_function};
+use kagari_oracle::{Budget, Facts, Instruction, Script, function, verify, verify_function};
 use std::cell::Cell;
 use std::panic;
 use std::sync::Once;
@@ -129,4 +130,27 @@ fn open_end_is_accepted_with_target_n() {
         (2, 2, &[2], true),
     ];
     assert_eq!(blocks(&facts), expected);
+}
+
+/// Refusal 17: a parameter named twice is as one that is named once.
+#[test]
+fn parameter_named_twice_is_accepted() {
+    let with = |script: Script, parameters: &[u32]| {
+        let parameters = parameters.to_vec();
+        verify(
+            &Script {
+                parameters,
+                ..script
+            },
+            Budget::default(),
+        )
+    };
+    // The smallest such script.
+    let smallest = || script([plain()], [], [Instruction::new(41, [])]);
+    let answer = with(smallest(), &[0, 0]);
+    assert!(answer.result.is_ok());
+    assert_eq!(answer.budget.work, 20);
+    assert_eq!(answer, with(smallest(), &[0]));
+    assert_eq!(with(case_d(), &[0, 0]), with(case_d(), &[0]));
+    assert_eq!(with(case_g(), &[0, 1, 0]), with(case_g(), &[1, 0]));
 }

@@ -57,12 +57,12 @@ fn ends(instruction: &Instruction) -> bool {
     instruction.kind >= 38
 }
 
-/// All subsets of the slots, and one with a repeat.
+/// All subsets of the slots.
 fn choices(slots: u32) -> Vec<Vec<u32>> {
     match slots {
         0 => vec![vec![]],
         1 => vec![vec![], vec![0]],
-        _ => vec![vec![], vec![0], vec![1], vec![1, 0, 1]],
+        _ => vec![vec![], vec![0], vec![1], vec![1, 0]],
     }
 }
 

@@ -2,8 +2,10 @@
 //! entries, code that nothing reaches.
 
 use super::writer::{Filled, Manner, Writer};
+use compare::damage::repeat;
 use compare::random::Random;
 use kagari_oracle::Script;
+use kagari_oracle::cases::plain;
 
 /// A script of up to some hundreds of instructions.
 pub fn script(random: &mut Random) -> Script {
@@ -50,7 +52,8 @@ pub fn wide(random: &mut Random) -> Script {
     write(random, manner, length)
 }
 
-/// A script with lists of up to 16,000 items, and as many parameters with repeats.
+/// A script with lists of up to 16,000 items, and as many parameters, for which it gets
+/// slots enough.
 pub fn long_lists(random: &mut Random) -> Script {
     let slots = random.pick(&[1, 5, 64, 200]);
     let manner = Manner {
@@ -64,8 +67,13 @@ pub fn long_lists(random: &mut Random) -> Script {
     let mut script = write(random, manner, 8);
     if random.once_in(2) {
         let most = random.pick(&[100, 1_000, 16_383]);
-        let repeats = random.number(0..=most);
-        script.parameters = (0..repeats).map(|_| random.number(0..=slots - 1)).collect();
+        let many = random.number(0..=most);
+        let slots = slots.max(many);
+        script.slots.resize(slots as usize, plain());
+        script.parameters = random.distinct(many, slots);
+        if random.once_in(8) && many > 0 && many < most {
+            repeat(random, &mut script.parameters);
+        }
     }
     script
 }

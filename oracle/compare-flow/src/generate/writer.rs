@@ -276,7 +276,8 @@ fn output(instruction: &Instruction) -> Option<u32> {
     (written != ABSENT).then_some(written)
 }
 
-/// Slots that are filled on entry: none, some, or all, with repeats.
+/// Slots that are filled on entry: none, some, or all, each named once, in disorder now
+/// and then.
 fn parameters(random: &mut Random, manner: &Manner) -> Vec<u32> {
     if manner.parameters == 0 || manner.slots == 0 {
         return Vec::new();
@@ -286,9 +287,11 @@ fn parameters(random: &mut Random, manner: &Manner) -> Vec<u32> {
         .collect();
     if random.once_in(3) && !parameters.is_empty() {
         for _ in 0..random.number(1..=5) {
-            let again = random.pick(&parameters);
-            let place = random.below(parameters.len() + 1);
-            parameters.insert(place, again);
+            let (one, other) = (
+                random.below(parameters.len()),
+                random.below(parameters.len()),
+            );
+            parameters.swap(one, other);
         }
     }
     parameters

@@ -1,0 +1,2 @@
+-- Laws of repeats.
+pub mod RepeatLaws

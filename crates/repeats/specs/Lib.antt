@@ -1,0 +1,3 @@
+-- Repeats in a list.
+pub mod Repeats
+pub mod Seen
