@@ -2,9 +2,10 @@
  * kagari_flow.h: the check of a route script, for hosts in C99 and C++.
  *
  * A script comes in as a sheet, a string of bytes. One call judges it and answers with its block
- * list and the slots that each await saves, or with the number of one refusal. Any bytes may be
- * handed in, with buffers of any length: no read or write leaves a buffer, and every call ends.
- * The call allocates nothing and keeps nothing from one call to the next.
+ * list and the slots that each await saves, or with the number of one refusal; another says what
+ * the saved slots weigh. Any bytes may be handed in, with buffers of any length: no read or write
+ * leaves a buffer, and every call ends. The calls allocate nothing and keep nothing from one call to
+ * the next.
  *
  * Link with libflow_c.a, which `rt staticlib flow_c` writes to target/staticlib (x86-64, Linux).
  * examples/c/check.c is a whole host. docs/REFUSALS.md has a sheet for each refusal.
@@ -153,6 +154,33 @@ kagari_flow_answer kagari_flow_verify(const uint8_t *sheet, size_t sheet_len,
                                       kagari_flow_budget budget, kagari_flow_block *blocks,
                                       size_t blocks_len, uint64_t *sets, size_t sets_len,
                                       uint64_t *scratch, size_t scratch_len);
+
+/*
+ * A load.
+ * number    0, or the refusal, 1 to 10 or 17
+ * function  the function's id; 0 if the function record itself is refused with 1, 2 or 3
+ * load      the load; 0 after a refusal
+ */
+typedef struct {
+    uint32_t number, function;
+    uint64_t load;
+} kagari_flow_load_answer; /* number 0: there is a load */
+
+/*
+ * The load of an answer: over all its awaits, the slots that each saves. A never or a unit slot
+ * (physical 0 or 1) holds nothing and weighs nothing, though it is saved; every other slot weighs 1.
+ *
+ * Hand in the sheet that was judged, the sets as the call left them, and `blocks` and `awaits` of the
+ * answer. Any bytes, words and numbers may be handed in: a sheet that fails a sheet check is refused
+ * with 1 to 9 or 17, sets with fewer than KAGARI_FLOW_SETS(blocks, awaits, w) words with 10, and bits at or
+ * above the slot count weigh nothing. A load stops at 2^64 - 1, which no memory is large enough for.
+ *
+ * Lengths: sheet_len in bytes, sets_len in words. The caller owes what it owes above, of these two.
+ * Both are only read.
+ */
+kagari_flow_load_answer kagari_flow_load(const uint8_t *sheet, size_t sheet_len,
+                                         const uint64_t *sets, size_t sets_len, uint64_t blocks,
+                                         uint64_t awaits);
 
 #ifdef __cplusplus
 }

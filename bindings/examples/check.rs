@@ -1,5 +1,5 @@
-//! Checks one sheet: reads it in hexadecimal, prints the answer, the blocks, and the slots
-//! that each await saves. The budget is zero unless it is given.
+//! Checks one sheet: reads it in hexadecimal, prints the answer, the blocks, the slots that
+//! each await saves, and their load. The budget is zero unless it is given.
 //!
 //!     check FILE [WORK RETAINED]
 //!
@@ -42,6 +42,8 @@ fn run(arguments: &[String]) -> Result<bool, String> {
     let mut lines = vec![text::answer(&result)];
     if let Ok(accepted) = &result {
         lines.extend(facts(accepted));
+        let load = accepted.load(&sheet).map_err(|number| number.to_string())?;
+        lines.push(format!("load {load}"));
     }
     let written = writeln!(io::stdout(), "{}", lines.join("\n"));
     written.map_err(|error| format!("standard output: {error}"))?;

@@ -1,7 +1,7 @@
 //! The answer on a script that is accepted.
 
-use crate::raw::Answer;
-use crate::{Block, Budget, Buffers};
+use crate::raw::{self, Answer};
+use crate::{Block, Budget, Buffers, Number};
 use std::borrow::Cow;
 use std::fmt;
 
@@ -85,6 +85,23 @@ impl<'m> Accepted<'m> {
             instruction: fact[0] as u32,
             slots: self.slots_in(&fact[1..]),
         })
+    }
+
+    /// The load: over all awaits, how many of the saved slots hold something. A never or a
+    /// unit slot (physical 0 or 1) is saved, but weighs nothing.
+    ///
+    /// `sheet` is the sheet that was judged: it says of which kind each slot is.
+    ///
+    /// # Errors
+    ///
+    /// Never with that sheet. Of another one, its number if it fails a sheet check, or
+    /// [`Number::NoRoom`] if it has more slots than this answer has room for.
+    pub fn load(&self, sheet: &[u8]) -> Result<u64, Number> {
+        let answer = raw::load(sheet, &self.sets, self.blocks.len(), self.awaits().len());
+        match answer.number {
+            0 => Ok(answer.load),
+            number => Err(Number::from_table(number)),
+        }
     }
 
     /// A block's two sets.

@@ -27,6 +27,7 @@
 //!     assert_eq!(point.instruction, 0);
 //!     assert!(point.slots.iter().eq([0]));
 //! }
+//! assert_eq!(accepted.load(&sheet), Ok(1));
 //! # Ok::<(), kagari_flow::Refusal>(())
 //! ```
 //!

@@ -27,6 +27,7 @@ fn compare(script: &Script, budget: Budget) -> bool {
             assert_eq!(accepted.function(), script.id);
             assert_eq!(oracle_budget(accepted.budget()), expected.budget);
             compare_facts(accepted, facts);
+            assert_eq!(accepted.load(&sheet(script)), Ok(load(facts, script)));
         }
         (Err(refusal), Err(number)) => {
             assert_eq!(refusal.number as u32, *number);
@@ -49,6 +50,18 @@ fn compare_facts(accepted: &Accepted<'_>, facts: &Facts) {
     for (found, expected) in accepted.awaits().zip(&facts.awaits) {
         compare_await(&found, expected);
     }
+}
+
+/// The saved slots that are neither never nor unit, counted over the Rust's facts.
+fn load(facts: &Facts, script: &Script) -> u64 {
+    let mut load = 0;
+    for point in &facts.awaits {
+        for (place, slot) in script.slots.iter().enumerate() {
+            let saved = point.live[place / 64] >> (place % 64) & 1 == 1;
+            load += u64::from(saved && slot.physical > 1);
+        }
+    }
+    load
 }
 
 fn compare_block(found: &Block, expected: &BlockFacts) {
@@ -173,4 +186,15 @@ fn on_bytes_of_any_kind() {
             assert_ne!(refusal.number, Number::NoRoom);
         }
     }
+}
+
+/// The load of an answer by another sheet than its own.
+#[test]
+fn a_load_by_another_sheet() {
+    let accepted = verify(&sheet(&case_d()), Budget::default()).expect("accepted");
+    assert_eq!(accepted.load(&sheet(&case_d())), Ok(1));
+    assert_eq!(accepted.load(&[]), Err(Number::ShortSheet));
+    assert_eq!(accepted.load(&sheet(&case_j())), Err(Number::OpenEnd));
+    // More words a set than the answer has.
+    assert_eq!(accepted.load(&sheet(&case_n(2_031))), Err(Number::NoRoom));
 }

@@ -1,6 +1,6 @@
 /*
- * Checks one sheet: reads it in hexadecimal, prints the answer, the blocks, and the slots that each
- * await saves. The budget is zero unless it is given.
+ * Checks one sheet: reads it in hexadecimal, prints the answer, the blocks, the slots that each await
+ * saves, and their load. The budget is zero unless it is given.
  *
  *     check FILE [WORK RETAINED]
  *
@@ -209,6 +209,14 @@ static void print_facts(const kagari_flow_answer *answer, const struct buffers *
         print_await(facts + number * (1 + w), slots);
 }
 
+static void print_load(struct sheet sheet, const kagari_flow_answer *answer,
+                       const struct buffers *lent)
+{
+    kagari_flow_load_answer load = kagari_flow_load(sheet.bytes, sheet.length, lent->sets,
+                                                    lent->sets_len, answer->blocks, answer->awaits);
+    printf("load %" PRIu64 "\n", load.load);
+}
+
 static uint64_t number(const char *digits)
 {
     char *end;
@@ -235,8 +243,10 @@ int main(int argc, char **argv)
         kagari_flow_verify(sheet.bytes, sheet.length, budget, lent.blocks, lent.blocks_len,
                            lent.sets, lent.sets_len, lent.scratch, lent.scratch_len);
     print_answer(&answer);
-    if (answer.number == KAGARI_FLOW_ACCEPTED)
+    if (answer.number == KAGARI_FLOW_ACCEPTED) {
         print_facts(&answer, &lent, counts.slots);
+        print_load(sheet, &answer, &lent);
+    }
 
     free(lent.scratch);
     free(lent.sets);

@@ -30,6 +30,7 @@ fn files() -> Vec<(&'static str, Script)> {
         ("o.hex", case_d()),
         ("route.hex", route()),
         ("twice.hex", twice()),
+        ("empty_slots.hex", empty_slots()),
     ]
 }
 
@@ -57,6 +58,23 @@ fn twice() -> Script {
         parameters: vec![0, 0],
         ..case_d()
     }
+}
+
+/// A never, a unit and an i32 slot are saved; only the last weighs.
+fn empty_slots() -> Script {
+    let slot = |physical| SlotType {
+        physical,
+        ty: Type::Absent,
+    };
+    script(
+        [slot(0), slot(1), slot(3)],
+        [0, 1, 2],
+        [
+            await_value(2, 2),
+            Instruction::new(14, [2, 0, 1]),
+            return_value(2),
+        ],
+    )
 }
 
 #[test]

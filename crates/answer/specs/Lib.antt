@@ -1,2 +1,3 @@
 -- Sets as words.
 pub mod Words
+pub mod Held

@@ -30,7 +30,7 @@ use Rattle.verdict.specs.Points.{Point, points}
 use Rattle.verdict.specs.Ascending.{Ascending}
 use Rattle.verdict.proofs.PointLaws.{points-ascend, point-awaits, point-least, point-clean, awaits-listed}
 use Rattle.outcome.specs.Buffers.{joined, reachableMark, blockSets, awaitWords}
-use Rattle.demands.specs.Held.{rowAt, initializedWords, liveWords, awaitInstruction, awaitSet}
+use Rattle.answer.specs.Held.{rowAt, initializedWords, liveWords, awaitInstruction, awaitSet}
 use Rattle.demands.proofs.HeldLaws.{point, initialized-is, live-is, instruction-is, set-is}
 use Rattle.demands.proofs.RowLaws.{allRows, initialized-row, live-row, rows-by-paths}
 use Rattle.dataflow.specs.Lists.{flag, range}

@@ -16,7 +16,7 @@ use Rattle.answer.proofs.WordLaws.{words-of}
 use Rattle.verdict.specs.Points.{Point}
 use Rattle.outcome.specs.Buffers.{joined, blockSets, awaitWords}
 use Rattle.outcome.proofs.JoinedLaws.{joined-at, joined-past}
-use Rattle.demands.specs.Held.{rowAt, initializedWords, liveWords, awaitInstruction}
+use Rattle.answer.specs.Held.{rowAt, initializedWords, liveWords, awaitInstruction}
 
 module _ (code : List Instruction) (parameter : ℕ → Bool) (w blocks : ℕ) (pts : List Point) (rest v : List ℕ)
     (is : v ≡ (joined (blockSets code parameter w) (range 0 blocks) ++ joined (awaitWords code parameter w) pts) ++ rest) where

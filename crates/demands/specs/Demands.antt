@@ -21,7 +21,7 @@ use Rattle.script.specs.Script.{flowCode, hostIn}
 use Rattle.dataflow.specs.BlockPaths.{ReachedBlock, FilledThrough, LiveFrom}
 use Rattle.outcome.specs.Outcome.{Outcome, accepted, refused}
 use Rattle.outcome.specs.Buffers.{reachableMark}
-use Rattle.demands.specs.Held.{initializedWords, liveWords, awaitInstruction, awaitSet}
+use Rattle.answer.specs.Held.{initializedWords, liveWords, awaitInstruction, awaitSet}
 
 -- an answer refuses with r
 abbrev pub Given : Refusal → Outcome → Type 0

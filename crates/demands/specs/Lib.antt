@@ -1,4 +1,3 @@
 -- What an answer says: demands 2 and 3 by paths, and the refusal table.
-pub mod Held
 pub mod Demands
 pub mod Table

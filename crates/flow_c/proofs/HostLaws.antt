@@ -57,6 +57,24 @@ number-small HostOverAwait = omega arith
 number-small FactsLimit = omega arith
 number-small ParameterTwice = omega arith
 
+-- and is none of an acceptance
+pub number-some : (r : Refusal) → 0 < numberOf r
+number-some ShortSheet = omega arith
+number-some WrongKind = omega arith
+number-some BadBody = omega arith
+number-some LeftOver = omega arith
+number-some TooMany = omega arith
+number-some NoCode = omega arith
+number-some NoSuchSlot = omega arith
+number-some NoSuchTarget = omega arith
+number-some OpenEnd = omega arith
+number-some NoRoom = omega arith
+number-some StateLimit = omega arith
+number-some WorkLimit = omega arith
+number-some UnfilledSlot = omega arith
+number-some HostOverAwait = omega arith
+number-some FactsLimit = omega arith
+
 -- ---- an answer in numbers is that of one outcome
 
 -- the refusals by number; 0 and 16 are none

@@ -1,2 +1,3 @@
 -- Laws of the exported call.
 pub mod HostLaws
+pub mod LoadLaws

@@ -1,4 +1,4 @@
--- The contract of the exported call: the answer as document 01 numbers it, and what each lent buffer holds.
+-- The contracts of the exported calls: the answer as document 01 numbers it, and what each lent buffer holds; and the load of such an answer.
 use mathlib.Core.Path.{_≡_}
 use mathlib.Core.Logic.{_↔_}
 use mathlib.Core.List.{List}
@@ -11,10 +11,14 @@ use Rattle.script.specs.Script.{parameterIn}
 use Rattle.outcome.specs.Outcome.{Outcome, accepted, refused, outcomeOf}
 use Rattle.demands.specs.Table.{Due}
 use Rattle.block_records.specs.declared.Block.{Block}
+use Rattle.load.specs.declared.Loaded.{Loaded}
+use Rattle.load.specs.declared.Loaded.the-variants as loading
+use Rattle.load.specs.Load.{loadedOf}
 use Rattle.answers.specs.Answers.{Verified}
 use Rattle.flow_blocks.specs.BlocksVerify.{blocksAfter, lengthsOf}
 use Rattle.flow_c.specs.declared.HostBudget.{HostBudget}
 use Rattle.flow_c.specs.declared.FlowAnswer.{FlowAnswer}
+use Rattle.flow_c.specs.declared.LoadAnswer.{LoadAnswer}
 
 -- the budget that a host passes
 abbrev pub budgetOf : HostBudget → FlowBudget
@@ -53,3 +57,12 @@ pub record HostVerified (s : List ℕ) (b : FlowBudget) (list list′ : List Blo
   pub verified : Verified s (parameterIn (partsOf s)) todays (lengthsOf list v w) b (definedOutcome s b list v w) v′ w′
   -- what the block list holds, on every outcome
   pub blocks : list′ ≡ blocksAfter s (lengthsOf list v w) (definedOutcome s b list v w)
+
+-- a load in numbers: 0 with the load; else the refusal's number with load 0; both with the function id
+abbrev pub loadAnswerOf : Loaded → LoadAnswer
+loadAnswerOf (loading.Is id load) = record { number = 0; function = id; load = load }
+loadAnswerOf (loading.Refused r id) = record { number = numberOf r; function = id; load = 0 }
+
+-- the load of an answer on the sheet s with so many blocks and awaits, whose sets are the words v
+abbrev pub hostLoad : List ℕ → List ℕ → ℕ → ℕ → LoadAnswer
+hostLoad s v blocks awaits = loadAnswerOf (loadedOf s v blocks awaits)

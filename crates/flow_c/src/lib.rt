@@ -2,9 +2,10 @@
 use answers::Answer;
 use block_records::Block;
 use budget::FlowBudget;
+use load::Loaded;
 ghost use mathlib.Core.Path.{_≡_};
 ghost use Rattle.answers.specs.Answers.{outcomeBy};
-ghost use Rattle.flow_c.specs.Exports.{budgetOf, answerOf, HostVerified};
+ghost use Rattle.flow_c.specs.Exports.{budgetOf, answerOf, HostVerified, loadAnswerOf, hostLoad};
 
 // Work charged and bytes retained so far.
 #[repr(C)]
@@ -68,6 +69,44 @@ fn answer_of(a: Answer) -> FlowAnswer
             awaits: 0,
             work: b.work,
             retained: b.retained,
+        },
+    }
+}
+
+// Number 0 and the load. Else the number of the refusal, and load 0.
+#[repr(C)]
+pub struct LoadAnswer {
+    pub number: u32,
+    pub function: u32,
+    pub load: u64,
+}
+
+// Any bytes, any words, any numbers: as `load` of crate load. All lent memory is only read.
+#[no_mangle]
+pub extern "C" fn kagari_flow_load(
+    sheet: &[u8],
+    sets: &[u64],
+    blocks: u64,
+    awaits: u64,
+) -> LoadAnswer
+    ensures { λ r. ⌜ r ≡ hostLoad (now (sheet .entry)) (now (sets .entry)) blocks awaits ⌝ }
+{
+    load_answer_of(load::load(sheet, sets, blocks as usize, awaits as usize))
+}
+
+fn load_answer_of(a: Loaded) -> LoadAnswer
+    ensures { λ r. ⌜ r ≡ loadAnswerOf a ⌝ }
+{
+    match a {
+        Loaded::Is(id, total) => LoadAnswer {
+            number: 0,
+            function: id,
+            load: total,
+        },
+        Loaded::Refused(r, id) => LoadAnswer {
+            number: r.number() as u32,
+            function: id,
+            load: 0,
         },
     }
 }

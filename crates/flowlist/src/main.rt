@@ -2,6 +2,7 @@
 // 256 block records; the budget is zero.
 use answers::Answer;
 use budget::FlowBudget;
+use load::Loaded;
 use operands::instruction;
 
 fn main() {
@@ -26,7 +27,7 @@ fn list(sheet: &[u8], text: &mut [u8]) {
     };
     match flow::verify(sheet, budget, &mut blocks, &mut sets, &mut scratch) {
         Answer::Refused(r, id, _) => refuse(text, r.number() as u64, id),
-        Answer::Accepted(id, b, a, _) => accept(text, id, &blocks, b, &sets, a, width(sheet)),
+        Answer::Accepted(id, b, a, _) => accept(text, sheet, id, &blocks, b, &sets, a),
     }
 }
 
@@ -36,16 +37,31 @@ fn refuse(text: &mut [u8], number: u64, id: u32) {
 }
 
 // The line of the whole, then a line a block, then a line an await; none after one that can't be written.
-fn accept(text: &mut [u8], id: u32, blocks: &[u64], b: usize, sets: &[u64], a: usize, w: usize) {
-    let load = listing::load(sets, w, b, a);
-    let n = listing::accept_line(text, id, b, a, load);
+fn accept(
+    text: &mut [u8],
+    sheet: &[u8],
+    id: u32,
+    blocks: &[u64],
+    b: usize,
+    sets: &[u64],
+    a: usize,
+) {
+    let n = listing::accept_line(text, id, b, a, load_of(sheet, sets, b, a));
     if !show(text, n) {
         return;
     }
     if !show_blocks(text, blocks, b) {
         return;
     }
-    show_awaits(text, sets, b, a, w);
+    show_awaits(text, sets, b, a, width(sheet));
+}
+
+// The load of an answer. That of a sheet which was accepted is never refused.
+fn load_of(sheet: &[u8], sets: &[u64], b: usize, a: usize) -> u64 {
+    match load::load(sheet, sets, b, a) {
+        Loaded::Is(_, total) => total,
+        Loaded::Refused(_, _) => 0,
+    }
 }
 
 fn show_blocks(text: &mut [u8], blocks: &[u64], b: usize) -> bool {

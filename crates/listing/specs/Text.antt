@@ -1,10 +1,10 @@
 -- What the functions of the listing do to the lent bytes, and what they answer.
 use mathlib.Core.Path.{_≡_}
 use mathlib.Core.List.{List}
-use Prim.Native.Nat.{ℕ, _+_, _*_, _≤_}
+use Prim.Native.Nat.{ℕ, _+_, _≤_}
 use lib.ListN.{length, take, drop, getD}
 use lib.Seq.{sets}
-use Rattle.listing.specs.Lines.{awaitLine, slotsAt, loadOf}
+use Rattle.listing.specs.Lines.{awaitLine, slotsAt}
 
 -- a line at the front: its length is answered always, the line stands there if it fits, and what lies past it is as before
 pub record Rendered (entry exit line : List ℕ) (r : ℕ) : Type 0 where
@@ -26,15 +26,3 @@ pub record Held (v : List ℕ) (w at : ℕ) : Type 0 where
 pub record AwaitRendered (v : List ℕ) (w at : ℕ) (entry exit : List ℕ) (r : ℕ) : Type 0 where
   pub there : Held v w at → Rendered entry exit (awaitLine (getD v at 0) (slotsAt v w (at + 1))) r
   pub missing : ¬ Held v w at → (r ≡ 0) × (exit ≡ entry)
-
--- numbers that an answer can have, and sets that hold its words
-pub record Answered (v : List ℕ) (w blocks awaits : ℕ) : Type 0 where
-  pub few-words : w ≤ 1024
-  pub few-blocks : blocks ≤ 65536
-  pub few-awaits : awaits ≤ 65536
-  pub room : blocks * (2 * w) + awaits * (1 + w) ≤ length v
-
--- the load of that answer, or 0
-pub record Loaded (v : List ℕ) (w blocks awaits r : ℕ) : Type 0 where
-  pub there : Answered v w blocks awaits → r ≡ loadOf v w blocks awaits
-  pub missing : ¬ Answered v w blocks awaits → r ≡ 0

@@ -1,12 +1,12 @@
 // The listing of an answer, line by line, into lent bytes. Each line's function answers how long the line is; it stands in the buffer if it fits.
 ghost use mathlib.Core.Path.{_≡_};
 ghost use mathlib.Core.List.{[], _∷_};
-ghost use Prim.Native.Nat.{_+_, _*_, _/_, _^_, _≤_, _<_};
+ghost use Prim.Native.Nat.{_+_, _/_, _^_, _≤_, _<_};
 ghost use lib.ListN.{length, drop, getD};
 ghost use Rattle.bitset.specs.Sets.{member};
-ghost use Rattle.dataflow.specs.Lists.{keep, sum, tabulate};
+ghost use Rattle.dataflow.specs.Lists.{keep};
 ghost use Rattle.listing.specs.Lines.{spaced, acceptLine, blockLine, awaitLine, refuseLine, slotsAt};
-ghost use Rattle.listing.specs.Text.{Puts, Rendered, Held, AwaitRendered, Loaded};
+ghost use Rattle.listing.specs.Text.{Puts, Rendered, Held, AwaitRendered};
 
 mod text;
 
@@ -90,65 +90,4 @@ fn put_slot(text: &mut [u8], at: usize, sets: &[u64], base: usize, slot: usize) 
         return text::put_next(text, at, slot as u64);
     }
     at
-}
-
-// The slots of all await sets, counted. Where the sets do not hold so many, 0.
-pub fn load(sets: &[u64], w: usize, blocks: usize, awaits: usize) -> u64
-    ensures { λ r. ⌜ Loaded (now (sets .entry)) w blocks awaits r ⌝ }
-{
-    if w > 1024 {
-        return 0;
-    }
-    if blocks > 65536 {
-        return 0;
-    }
-    if awaits > 65536 {
-        return 0;
-    }
-    let first = blocks * (2 * w);
-    if sets.len() < first + awaits * (1 + w) {
-        return 0;
-    }
-    count_all(sets, w, first, awaits)
-}
-
-// The slots of the sets of the awaits, the first of which begins at word `first`.
-fn count_all(sets: &[u64], w: usize, first: usize, awaits: usize) -> u64
-    requires { ⌜ (w ≤ 1024) × (awaits ≤ 65536) × (first + awaits * (1 + w) ≤ length (now sets)) ⌝ }
-    ensures { λ r. ⌜ r ≡ sum (tabulate 0 awaits (λ k. length (slotsAt (now (sets .entry)) w (first + k * (1 + w) + 1)))) ⌝ }
-{
-    let mut total = 0;
-    let mut at = first;
-    let mut k = 0;
-    while k < awaits {
-        total += count_slots(sets, at + 1, w);
-        at += 1 + w;
-        k += 1;
-    }
-    total
-}
-
-// The slots of a set, counted.
-fn count_slots(sets: &[u64], base: usize, w: usize) -> u64
-    requires { ⌜ (w ≤ 1024) × (base + w ≤ length (now sets)) ⌝ }
-    ensures { λ r. ⌜ r ≡ length (slotsAt (now (sets .entry)) w base) ⌝ }
-{
-    let mut count = 0;
-    let mut slot = 0;
-    while slot < 64 * w {
-        count += count_slot(sets, base, slot);
-        slot += 1;
-    }
-    count
-}
-
-// 1 if the slot is in the set.
-fn count_slot(sets: &[u64], base: usize, slot: usize) -> u64
-    requires { ⌜ base + slot / 64 < length (now sets) ⌝ }
-    ensures { λ r. ⌜ r ≡ length (keep (member (drop base (now (sets .entry)))) (slot ∷ [])) ⌝ }
-{
-    if bitset::contains(sets, base, slot) {
-        return 1;
-    }
-    0
 }

@@ -65,6 +65,8 @@ pub struct Passed {
     pub id: u32,
     /// The number of slots.
     pub slots: usize,
+    /// The physical byte of each slot.
+    pub physical: Vec<u8>,
     /// N, the number of instructions.
     pub count: usize,
     /// A, the number of await instructions, reached or not.
@@ -111,6 +113,7 @@ impl Passed {
             function: function(script),
             id: script.id,
             slots,
+            physical: script.slots.iter().map(|slot| slot.physical).collect(),
             count: script.code.len(),
             awaits,
             needs: needs(

@@ -38,6 +38,18 @@ pub struct Answer {
     pub retained: u64,
 }
 
+/// What the call for the load answers.
+#[repr(C)]
+#[derive(Debug, Clone, Copy, PartialEq, Eq, Default)]
+pub struct Load {
+    /// 0, or the number of a refusal, 1 to 10.
+    pub number: u32,
+    /// The function's id.
+    pub function: u32,
+    /// The load; 0 after a refusal.
+    pub load: u64,
+}
+
 /// A budget as the library takes it.
 #[repr(C)]
 struct BudgetC {
@@ -58,6 +70,15 @@ unsafe extern "C" {
         scratch: *mut u64,
         scratch_len: usize,
     ) -> Answer;
+
+    fn kagari_flow_load(
+        sheet: *const u8,
+        sheet_len: usize,
+        sets: *const u64,
+        sets_len: usize,
+        blocks: u64,
+        awaits: u64,
+    ) -> Load;
 }
 
 /// Checks a sheet from a budget, with these lent buffers.
@@ -86,6 +107,22 @@ pub fn verify(
             sets.len(),
             scratch.as_mut_ptr(),
             scratch.len(),
+        )
+    }
+}
+
+/// The load of an answer with so many blocks and awaits, whose sets are these words.
+pub fn load(sheet: &[u8], sets: &[u64], blocks: u64, awaits: u64) -> Load {
+    // SAFETY: each pointer and length are those of a slice that lives through the call,
+    // and none is written to.
+    unsafe {
+        kagari_flow_load(
+            sheet.as_ptr(),
+            sheet.len(),
+            sets.as_ptr(),
+            sets.len(),
+            blocks,
+            awaits,
         )
     }
 }

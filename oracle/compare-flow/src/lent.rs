@@ -2,7 +2,8 @@
 //! each lie canaries; after it they are compared whole.
 
 use crate::expected::{Known, Lengths, Outcome};
-use crate::flow_c::{Answer, Block, verify};
+use crate::flow_c::{self, Answer, Block, verify};
+use crate::load;
 use compare::random::Random;
 use kagari_oracle::Budget;
 use std::fmt::{self, Debug, Display, Formatter};
@@ -82,14 +83,26 @@ impl Lent {
         let got = self.call(sheet, budget, lengths, garbage);
         let expected = known.expected(budget, lengths);
         let outside = self.outside(sheet, garbage);
-        if got == expected.answer && self.holds(&expected) && outside.is_empty() {
+        let load = self.load(sheet, known, &expected);
+        if got == expected.answer && self.holds(&expected) && outside.is_empty() && load.is_empty()
+        {
             return Ok(got);
         }
         Err(Box::new(Mismatch {
             expected: expected.answer,
             got,
-            places: [self.differences(&expected), outside].concat(),
+            places: [self.differences(&expected), outside, load].concat(),
         }))
+    }
+
+    /// How the load of the Rust's answer differs from a plain count, if it does.
+    fn load(&self, sheet: &[u8], known: &Known, rust: &Outcome) -> Vec<String> {
+        let Answer { blocks, awaits, .. } = rust.answer;
+        let expected = load::expected(known, &rust.sets, blocks, awaits);
+        let got = flow_c::load(sheet, &rust.sets, blocks, awaits);
+        let differs = got != expected;
+        let text = || format!("load: expected {expected:?}, got {got:?}");
+        differs.then(text).into_iter().collect()
     }
 
     fn call(&mut self, sheet: &[u8], budget: Budget, lengths: Lengths, garbage: u64) -> Answer {

@@ -6,6 +6,7 @@ pub mod expected;
 pub mod flow_c;
 pub mod generate;
 pub mod lent;
+pub mod load;
 pub mod plan;
 pub mod report;
 mod shrink;

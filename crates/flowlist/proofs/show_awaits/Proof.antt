@@ -1,12 +1,16 @@
 -- `flowlist::show_awaits` is safe and ends. The text keeps its length, and the place stays small. Assumes nothing.
 use native.Mathlib.Omega.{arith}
-use Rattle.listing.proofs.LoadLaws.{blocks-few}
 use mathlib.Core.Path.{_≡_}
-use Prim.Native.Nat.{_-_, _≤_}
+use Prim.Native.Nat.{ℕ, _*_, _-_, _≤_}
+use native.Mathlib.Nat.{mul-le-mul}
 use lib.ListN.{length}
 use borrow.Author.Needs.{needs}
 use Rattle.flowlist.proofs.show_awaits.Statement.{statement}
 use Rattle.flowlist.proofs.show_awaits.Tie as tie
+
+-- the sets of at most 256 blocks have no large number of words
+blocks-few : (w blocks : ℕ) → w ≤ 1024 → blocks ≤ 256 → blocks * (2 * w) ≤ 524288
+blocks-few w blocks h k = let d : 2 * w ≤ 2048 = omega arith in omega (arith, mul-le-mul k d)
 
 abbrev Inv-loop : tie.InvT-loop
 Inv-loop text₀ sets b a w at₀ k₀ text at k = (k ≤ a) × (length text ≡ length text₀)

@@ -1,0 +1,3 @@
+-- The load of an answer.
+pub mod Load
+pub mod Counting
