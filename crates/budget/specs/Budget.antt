@@ -1,6 +1,6 @@
 -- A budget, its limits, and what charges make of it.
 use mathlib.Core.List.{List}
-use Prim.Native.Nat.{ℕ, _+_, _*_, min}
+use Prim.Native.Nat.{ℕ, _+_, _*_, _≤_, min}
 use lib.Dec.{leb}
 use Rattle.dataflow.specs.Lists.{pick}
 use Rattle.dataflow.specs.Charges.{Spent, within, crossed, saturatingSum, spend}
@@ -16,6 +16,12 @@ todays = record { work = 100000000; state = 67108864; facts = 67108864 }
 -- limits as they count: each is at most today's
 abbrev pub counted : Limits → Limits
 counted l = record { work = min (l .work) (todays .work); state = min (l .state) (todays .state); facts = min (l .facts) (todays .facts) }
+
+-- limits h are nowhere lower than l
+pub record NowhereLower (l h : Limits) : Type 0 where
+  pub work : l .work ≤ h .work
+  pub state : l .state ≤ h .state
+  pub facts : l .facts ≤ h .facts
 
 -- the budget with this work
 abbrev pub withWork : FlowBudget → ℕ → FlowBudget

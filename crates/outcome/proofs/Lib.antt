@@ -1,3 +1,4 @@
 -- Laws of outcomes.
 pub mod JoinedLaws
 pub mod Cases
+pub mod LimitLaws

@@ -1,2 +1,3 @@
 -- Laws of the refusals that the sizes decide.
 pub mod StageLaws
+pub mod LimitLaws

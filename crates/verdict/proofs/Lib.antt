@@ -4,3 +4,4 @@ pub mod Sublists
 pub mod PointLaws
 pub mod RetainedLaws
 pub mod Cases
+pub mod LimitLaws
