@@ -13,10 +13,11 @@ use Rattle.operands.specs.Places.{gathered}
 use Rattle.operands.specs.Variants.{slotInputs, slotOutput, jumpTargets, variants}
 use Rattle.operands.specs.Kinds.{endsBlock, isAwait}
 use Rattle.operands.specs.Bytes.{numbersAt}
+use Rattle.repeats.specs.Repeats.{anyTwice}
 use Rattle.format.specs.Heads.{fieldsAt, short}
 use Rattle.format.specs.Types.{itemsAt, leaf, typeAt, wholeType}
 use Rattle.format.specs.Fields.{badModule, noSlot, noTarget, anyField, anyAbove}
-use Rattle.records.specs.Records.{functionFault, parametersFault, badSlot, slotFault, badInstruction, instructionFault}
+use Rattle.records.specs.Records.{functionFault, parameterSlotsFault, repeatFault, parametersFault, badSlot, slotFault, badInstruction, instructionFault}
 use Rattle.sheet.specs.Decode.{dues, sizesFault, faultAt, firstBad, offsetOf, endFault, refusal, idOf, recordsFrom, partsOf, decode, isHost}
 use Rattle.sheet.specs.Scripts.{awaitsIn, scriptOf, checkedOf}
 use Rattle.script.specs.Script.{flowCode, parameterIn, hostIn}
@@ -58,7 +59,7 @@ pub record Cases : Type 0 where
       (accepted 7 1 1 (at 43 32)) 1 1 (7 ∷ 7 ∷ 0 ∷ 7 ∷ []) 1
 
 pub cases : Cases
-unfolding run solution initAtEntry liveAtEntry search turns sweep member digit groups patternIn patternOf roleIn roleAt fixedAt listAt fits gathered slotInputs slotOutput jumpTargets variants bySource inputsOf outputOf targetsOf endsBlock isAwait numbersAt fieldsAt short itemsAt leaf typeAt wholeType badModule noSlot noTarget anyField anyAbove functionFault parametersFault badSlot slotFault badInstruction instructionFault dues sizesFault faultAt firstBad offsetOf endFault refusal idOf recordsFrom partsOf decode awaitsIn scriptOf checkedOf isHost flowCode parameterIn hostIn charged retained roomsOf graphOf readsRun awaitRun pointRun awaitsRun blockRun blocksRun pointsRun awaitPoints blockPoints points outcomeOf numberOf wordsFrom setLoad loadOf loadedOf
+unfolding run solution initAtEntry liveAtEntry search turns sweep member digit groups patternIn patternOf roleIn roleAt fixedAt listAt fits gathered slotInputs slotOutput jumpTargets variants bySource inputsOf outputOf targetsOf endsBlock isAwait numbersAt fieldsAt short itemsAt leaf typeAt wholeType badModule noSlot noTarget anyField anyAbove anyTwice functionFault parameterSlotsFault repeatFault parametersFault badSlot slotFault badInstruction instructionFault dues sizesFault faultAt firstBad offsetOf endFault refusal idOf recordsFrom partsOf decode awaitsIn scriptOf checkedOf isHost flowCode parameterIn hostIn charged retained roomsOf graphOf readsRun awaitRun pointRun awaitsRun blockRun blocksRun pointsRun awaitPoints blockPoints points outcomeOf numberOf wordsFrom setLoad loadOf loadedOf
 cases = record {
   d = record { answer = refl; words = refl; is = refl };
   empty = record { answer = refl; words = refl; is = refl };

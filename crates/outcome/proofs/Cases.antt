@@ -17,7 +17,7 @@ use Rattle.repeats.specs.Repeats.{anyTwice}
 use Rattle.format.specs.Heads.{fieldsAt, short}
 use Rattle.format.specs.Types.{itemsAt, leaf, typeAt, wholeType}
 use Rattle.format.specs.Fields.{badModule, noSlot, noTarget, anyField, anyAbove}
-use Rattle.records.specs.Records.{functionFault, parametersFault, badSlot, slotFault, badInstruction, instructionFault}
+use Rattle.records.specs.Records.{functionFault, parameterSlotsFault, repeatFault, parametersFault, badSlot, slotFault, badInstruction, instructionFault}
 use Rattle.sheet.specs.Decode.{dues, sizesFault, faultAt, firstBad, offsetOf, endFault, refusal, idOf, recordsFrom, partsOf, decode, isHost}
 use Rattle.sheet.specs.Scripts.{awaitsIn, scriptOf, checkedOf}
 use Rattle.script.specs.Script.{flowCode, parameterIn, hostIn}
@@ -82,7 +82,7 @@ pub record Cases : Type 0 where
   pub j : Gives (sheetOf 7 (0 ∷ []) (3 ∷ 3 ∷ []) (i 8 (1 ∷ 0 ∷ []) ∷ [])) (refused OpenEnd 7 (at 0 0)) [] []
 
 pub cases : Cases
-unfolding run solution initAtEntry liveAtEntry search turns sweep groups patternIn patternOf roleIn roleAt fixedAt listAt fits gathered slotInputs slotOutput jumpTargets variants bySource inputsOf outputOf targetsOf endsBlock isAwait numbersAt fieldsAt short itemsAt leaf typeAt wholeType badModule noSlot noTarget anyField anyAbove anyTwice functionFault parametersFault badSlot slotFault badInstruction instructionFault dues sizesFault faultAt firstBad offsetOf endFault refusal idOf recordsFrom partsOf decode awaitsIn scriptOf checkedOf isHost flowCode parameterIn hostIn charged retained roomsOf graphOf readsRun awaitRun pointRun awaitsRun blockRun blocksRun pointsRun awaitPoints blockPoints points outcomeOf numberOf wordsFrom
+unfolding run solution initAtEntry liveAtEntry search turns sweep groups patternIn patternOf roleIn roleAt fixedAt listAt fits gathered slotInputs slotOutput jumpTargets variants bySource inputsOf outputOf targetsOf endsBlock isAwait numbersAt fieldsAt short itemsAt leaf typeAt wholeType badModule noSlot noTarget anyField anyAbove anyTwice functionFault parameterSlotsFault repeatFault parametersFault badSlot slotFault badInstruction instructionFault dues sizesFault faultAt firstBad offsetOf endFault refusal idOf recordsFrom partsOf decode awaitsIn scriptOf checkedOf isHost flowCode parameterIn hostIn charged retained roomsOf graphOf readsRun awaitRun pointRun awaitsRun blockRun blocksRun pointsRun awaitPoints blockPoints points outcomeOf numberOf wordsFrom
 cases = record {
   a = record { answer = refl; blocks = refl; words = refl };
   b = record { answer = refl; blocks = refl; words = refl };

@@ -2,7 +2,7 @@
 use mathlib.Core.Path.{_≡_, refl}
 use mathlib.Core.Bool.{Bool, true, false, _||_, not, and-eq-true-iff}
 use mathlib.Core.List.{List, [], _∷_}
-use mathlib.Core.Option.{Option, none}
+use mathlib.Core.Option.{Option, none, some}
 use Prim.Native.Nat.{ℕ, _+_, _/_, _%_, _≤_, _<_}
 use native.Mathlib.Omega.{arith}
 use borrow.Author.Tests.{not-false, eqb-true, leb-true, leb-false}
@@ -13,12 +13,12 @@ use Rattle.operands.specs.Patterns.{fits}
 use Rattle.repeats.specs.Repeats.{anyTwice}
 use Rattle.format.specs.declared.refusal.Refusal.{Refusal}
 use Rattle.format.specs.declared.refusal.Refusal.the-variants.{ShortSheet, WrongKind, BadBody, NoSuchSlot, NoSuchTarget, ParameterTwice}
-use Rattle.format.specs.Refusals.{due}
+use Rattle.format.specs.Refusals.{due, orElse}
 use Rattle.format.specs.Heads.{short, kindAt, endAt, bodyLength, fieldsAt}
 use Rattle.format.specs.Types.{wholeType, endsWith}
 use Rattle.format.specs.Fields.{badModule, noSlot, noTarget, anyField, anyAbove}
 use Rattle.format.proofs.Or.{or-none}
-use Rattle.records.specs.Records.{functionFault, parametersFault, badSlot, slotFault, badInstruction, instructionFault}
+use Rattle.records.specs.Records.{functionFault, parameterSlotsFault, repeatFault, parametersFault, badSlot, slotFault, badInstruction, instructionFault}
 
 -- a test on the way did not hold
 pub none-due : (b : Bool) (r : Refusal) (rest : Option Refusal) → due b r rest ≡ none → (b ≡ false) × (rest ≡ none)
@@ -46,22 +46,36 @@ function-passed s at e =
     let c = none-due (not (eqb (bodyLength s at) 12)) BadBody none (b .1) in
     record { whole = a .0; kind = eqb-true _ _ (not-false _ (b .0)); length-is = eqb-true _ _ (not-false _ (c .0)) }
 
-pub record ParametersPassed (s : List ℕ) (slots at : ℕ) : Type 0 where
+-- of two refusals none is due
+pub neither : (a b : Option Refusal) → orElse a b ≡ none → (a ≡ none) × (b ≡ none)
+neither none b e = (refl, e)
+neither (some r) b e = let z : _≡_ {A = ℕ} 0 1 = cc in absurd (omega arith)
+
+pub record ParameterSlotsPassed (s : List ℕ) (slots at : ℕ) : Type 0 where
   pub whole : short s at ≡ false
   pub kind : kindAt s at ≡ 257
   pub fields : bodyLength s at % 4 ≡ 0
   pub below : anyAbove slots (fieldsAt s at) ≡ false
-  pub once : anyTwice (fieldsAt s at) ≡ false
 
-pub parameters-passed : (s : List ℕ) (slots at : ℕ) → parametersFault s slots at ≡ none → ParametersPassed s slots at
-unfolding parametersFault
-parameters-passed s slots at e =
+pub slots-passed : (s : List ℕ) (slots at : ℕ) → parameterSlotsFault s slots at ≡ none → ParameterSlotsPassed s slots at
+unfolding parameterSlotsFault
+slots-passed s slots at e =
     let a = none-due _ ShortSheet _ e in
     let b = none-due _ WrongKind _ (a .1) in
     let c = none-due _ BadBody _ (b .1) in
     let d = none-due _ NoSuchSlot _ (c .1) in
-    let t = none-due _ ParameterTwice _ (d .1) in
-    record { whole = a .0; kind = eqb-true _ _ (not-false _ (b .0)); fields = eqb-true _ _ (not-false _ (c .0)); below = d .0; once = t .0 }
+    record { whole = a .0; kind = eqb-true _ _ (not-false _ (b .0)); fields = eqb-true _ _ (not-false _ (c .0)); below = d .0 }
+
+pub record ParametersPassed (s : List ℕ) (slots at : ℕ) : Type 0 where
+  pub all-slots : ParameterSlotsPassed s slots at
+  pub once : anyTwice (fieldsAt s at) ≡ false
+
+pub parameters-passed : (s : List ℕ) (slots at : ℕ) → parametersFault s slots at ≡ none → ParametersPassed s slots at
+unfolding parametersFault repeatFault
+parameters-passed s slots at e =
+    let o = neither (parameterSlotsFault s slots at) (repeatFault s at) e in
+    let t = none-due (anyTwice (fieldsAt s at)) ParameterTwice none (o .1) in
+    record { all-slots = slots-passed s slots at (o .0); once = t .0 }
 
 pub record SlotPassed (s : List ℕ) (at : ℕ) : Type 0 where
   pub whole : short s at ≡ false

@@ -10,16 +10,15 @@ use lib.ListN.{getD}
 use Rattle.operands.specs.Choice.{pick}
 use Rattle.operands.specs.Patterns.{fits}
 use Rattle.operands.specs.Bytes.{numbersAt}
-use Rattle.format.specs.declared.refusal.Refusal.the-variants.{ShortSheet, WrongKind, BadBody, NoSuchSlot, NoSuchTarget, ParameterTwice}
+use Rattle.format.specs.declared.refusal.Refusal.the-variants.{ShortSheet, WrongKind, BadBody, NoSuchSlot, NoSuchTarget}
 use Rattle.format.specs.declared.fields.Faults.{Faults}
 use Rattle.records.specs.declared.record.Step.the-variants.{Next, Stop}
 use Rattle.format.specs.declared.types.Typed.the-variants.{Got, BadType}
 use Rattle.format.specs.Heads.{short, kindAt, endAt, bodyLength, fieldsAt}
 use Rattle.format.specs.Types.{Ty, Read, got, unfit, endsWith, wholeType}
-use Rattle.repeats.specs.Repeats.{anyTwice}
 use Rattle.format.specs.Fields.{badModule, noSlot, noTarget, anyField, anyAbove}
 use Rattle.format.specs.Answers.{FaultsIn, Inside, typedOf}
-use Rattle.records.specs.Records.{functionFault, parametersFault, badSlot, slotFault, badInstruction, instructionFault}
+use Rattle.records.specs.Records.{functionFault, parameterSlotsFault, badSlot, slotFault, badInstruction, instructionFault}
 use Rattle.records.specs.Steps.{dueFault, fieldsFault, stepOf}
 
 -- the body of a slot record
@@ -67,11 +66,11 @@ module _ (r : Faults) (end kind : ℕ) where
 -- a sheet that ends before the record does, whichever is due
 pub due-short : (s : List ℕ) (kind slots n at : ℕ) → short s at ≡ true
     → Stop ShortSheet ≡ stepOf (dueFault s kind slots n at) (endAt s at) (kindAt s at)
-unfolding functionFault parametersFault slotFault instructionFault
+unfolding functionFault parameterSlotsFault slotFault instructionFault
 due-short s kind slots n at e = go (eqb kind 256) (eqb kind 257) (eqb kind 258)
   where
     go : (f p l : Bool) → Stop ShortSheet
-        ≡ stepOf (pick f (functionFault s at) (pick p (parametersFault s slots at) (pick l (slotFault s at) (instructionFault s slots n at)))) (endAt s at) (kindAt s at)
+        ≡ stepOf (pick f (functionFault s at) (pick p (parameterSlotsFault s slots at) (pick l (slotFault s at) (instructionFault s slots n at)))) (endAt s at) (kindAt s at)
     go true p l = rw e
     go false true l = rw e
     go false false true = rw e
@@ -122,8 +121,8 @@ module _ {s : List ℕ} {at kind body end : ℕ} (i : Inside s at kind body end)
   unfolding slotFault
   slot-due e b = rw (i .whole, is 258 e, same-slot false b) passed
 
-  pub parameters-kind : (slots : ℕ) → (kind ≡ 257 → ⊥) → Stop WrongKind ≡ stepOf (parametersFault s slots at) (endAt s at) (kindAt s at)
-  unfolding parametersFault
+  pub parameters-kind : (slots : ℕ) → (kind ≡ 257 → ⊥) → Stop WrongKind ≡ stepOf (parameterSlotsFault s slots at) (endAt s at) (kindAt s at)
+  unfolding parameterSlotsFault
   parameters-kind slots n = rw (i .whole, is-not 257 n)
 
   whole-fields : (end - body) % 4 ≡ 0 → eqb (bodyLength s at % 4) 0 ≡ true
@@ -133,24 +132,19 @@ module _ {s : List ℕ} {at kind body end : ℕ} (i : Inside s at kind body end)
   cut-fields n = ne-eqb (bodyLength s at % 4) 0 (λ q. n (ap (λ (n : ℕ). n % 4) same-length ∙ q))
 
   pub parameters-body : (slots : ℕ) → kind ≡ 257 → ((end - body) % 4 ≡ 0 → ⊥)
-      → Stop BadBody ≡ stepOf (parametersFault s slots at) (endAt s at) (kindAt s at)
-  unfolding parametersFault
+      → Stop BadBody ≡ stepOf (parameterSlotsFault s slots at) (endAt s at) (kindAt s at)
+  unfolding parameterSlotsFault
   parameters-body slots e n = rw (i .whole, is 257 e, cut-fields n)
 
   pub parameters-slot : (slots : ℕ) → kind ≡ 257 → (end - body) % 4 ≡ 0 → true ≡ anyAbove slots (numbersAt s body ((end - body) / 4))
-      → Stop NoSuchSlot ≡ stepOf (parametersFault s slots at) (endAt s at) (kindAt s at)
-  unfolding parametersFault
+      → Stop NoSuchSlot ≡ stepOf (parameterSlotsFault s slots at) (endAt s at) (kindAt s at)
+  unfolding parameterSlotsFault
   parameters-slot slots e n b = rw (i .whole, is 257 e, whole-fields n, ← ap (anyAbove slots) same-fields, ← b)
 
-  pub parameters-twice : (slots : ℕ) → kind ≡ 257 → (end - body) % 4 ≡ 0 → false ≡ anyAbove slots (numbersAt s body ((end - body) / 4))
-      → true ≡ anyTwice (numbersAt s body ((end - body) / 4)) → Stop ParameterTwice ≡ stepOf (parametersFault s slots at) (endAt s at) (kindAt s at)
-  unfolding parametersFault
-  parameters-twice slots e n b t = rw (i .whole, is 257 e, whole-fields n, ← same-fields, ← b, ← t)
-
   pub parameters-due : (slots : ℕ) → kind ≡ 257 → (end - body) % 4 ≡ 0 → false ≡ anyAbove slots (numbersAt s body ((end - body) / 4))
-      → false ≡ anyTwice (numbersAt s body ((end - body) / 4)) → Next end kind ≡ stepOf (parametersFault s slots at) (endAt s at) (kindAt s at)
-  unfolding parametersFault
-  parameters-due slots e n b t = rw (i .whole, is 257 e, whole-fields n, ← same-fields, ← b, ← t) passed
+      → Next end kind ≡ stepOf (parameterSlotsFault s slots at) (endAt s at) (kindAt s at)
+  unfolding parameterSlotsFault
+  parameters-due slots e n b = rw (i .whole, is 257 e, whole-fields n, ← ap (anyAbove slots) same-fields, ← b) passed
 
   module _ (slots n : ℕ) where
     pub instruction-low : kind < 1 → Stop WrongKind ≡ stepOf (instructionFault s slots n at) (endAt s at) (kindAt s at)

@@ -10,7 +10,7 @@ use Rattle.operands.specs.Patterns.{fits}
 use Rattle.format.specs.declared.refusal.Refusal.{Refusal}
 use Rattle.format.specs.declared.refusal.Refusal.the-variants.{ShortSheet, WrongKind, BadBody, NoSuchSlot, NoSuchTarget, ParameterTwice}
 use Rattle.repeats.specs.Repeats.{anyTwice}
-use Rattle.format.specs.Refusals.{due}
+use Rattle.format.specs.Refusals.{due, orElse}
 use Rattle.format.specs.Heads.{u16At, short, kindAt, endAt, bodyLength, fieldsAt}
 use Rattle.format.specs.Types.{wholeType, endsWith}
 use Rattle.format.specs.Fields.{badModule, noSlot, noTarget, anyField, anyAbove}
@@ -23,15 +23,22 @@ functionFault s at =
     (due (not (eqb (bodyLength s at) 12)) BadBody
     none))
 
--- kind 257, parameter slots, each named once
-unfoldable pub parametersFault : List ℕ → ℕ → ℕ → Option Refusal
-parametersFault s slots at =
+-- kind 257, parameter slots: whether each is a slot
+unfoldable pub parameterSlotsFault : List ℕ → ℕ → ℕ → Option Refusal
+parameterSlotsFault s slots at =
     due (short s at) ShortSheet
     (due (not (eqb (kindAt s at) 257)) WrongKind
     (due (not (eqb (bodyLength s at % 4) 0)) BadBody
     (due (anyAbove slots (fieldsAt s at)) NoSuchSlot
-    (due (anyTwice (fieldsAt s at)) ParameterTwice
-    none))))
+    none)))
+
+-- 17: a parameter slot is named twice
+unfoldable pub repeatFault : List ℕ → ℕ → Option Refusal
+repeatFault s at = due (anyTwice (fieldsAt s at)) ParameterTwice none
+
+-- the parameter record: 1, 2, 3, 7, then 17
+unfoldable pub parametersFault : List ℕ → ℕ → ℕ → Option Refusal
+parametersFault s slots at = orElse (parameterSlotsFault s slots at) (repeatFault s at)
 
 -- 3: a slot's body that is not one physical byte, 0 to 12, then a type
 unfoldable pub badSlot : List ℕ → ℕ → ℕ → Bool

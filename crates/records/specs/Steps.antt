@@ -10,13 +10,13 @@ use Rattle.format.specs.declared.refusal.Refusal.the-variants.{ShortSheet, BadB
 use Rattle.format.specs.Refusals.{due}
 use Rattle.records.specs.declared.record.Step.{Step}
 use Rattle.records.specs.declared.record.Step.the-variants.{Next, Stop}
-use Rattle.records.specs.Records.{functionFault, parametersFault, slotFault, instructionFault}
+use Rattle.records.specs.Records.{functionFault, parameterSlotsFault, slotFault, instructionFault}
 
 -- the record of the kind that is due: 256, 257 or 258, and else an instruction
 abbrev pub dueFault : List ℕ → ℕ → ℕ → ℕ → ℕ → Option Refusal
 dueFault s kind slots n at =
     pick (eqb kind 256) (functionFault s at)
-    (pick (eqb kind 257) (parametersFault s slots at) (pick (eqb kind 258) (slotFault s at) (instructionFault s slots n at)))
+    (pick (eqb kind 257) (parameterSlotsFault s slots at) (pick (eqb kind 258) (slotFault s at) (instructionFault s slots n at)))
 
 -- 3, 7 and 8 of the fields
 abbrev pub fieldsFault : Bool → Bool → Bool → Option Refusal

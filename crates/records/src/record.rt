@@ -13,7 +13,7 @@ ghost use Prim.Native.Nat.{_+_, _≤_, min};
 ghost use lib.ListN.{length};
 ghost use Rattle.format.specs.Heads.{kindAt, endAt};
 ghost use Rattle.format.specs.Answers.{Inside};
-ghost use Rattle.records.specs.Records.{badSlot, topPhysical, plainSlot, plainRun, functionFault, parametersFault, slotFault, instructionFault};
+ghost use Rattle.records.specs.Records.{badSlot, topPhysical, plainSlot, plainRun, functionFault, parameterSlotsFault, slotFault, instructionFault};
 ghost use Rattle.records.specs.Steps.{stepOf, refusalIn, fieldsFault, dueFault};
 
 pub const FUNCTION: usize = 256;
@@ -57,10 +57,10 @@ fn function_record(s: &[u8], at: usize, kind: usize, body: usize, end: usize) ->
     Step::Next(end, kind)
 }
 
-// The parameter record at an offset, its head read.
+// The parameter record at an offset, its head read: 17 is looked at afterwards.
 fn parameter_record(s: &[u8], slots: usize, at: usize, kind: usize, body: usize, end: usize) -> Step
     requires { ⌜ Inside (now s) at kind body end ⌝ }
-    ensures { λ r. ⌜ r ≡ stepOf (parametersFault (now (s .entry)) slots at) (endAt (now (s .entry)) at) (kindAt (now (s .entry)) at) ⌝ }
+    ensures { λ r. ⌜ r ≡ stepOf (parameterSlotsFault (now (s .entry)) slots at) (endAt (now (s .entry)) at) (kindAt (now (s .entry)) at) ⌝ }
 {
     if kind != PARAMETERS {
         return Step::Stop(Refusal::WrongKind);
@@ -71,9 +71,6 @@ fn parameter_record(s: &[u8], slots: usize, at: usize, kind: usize, body: usize,
     }
     if fields::any_above(s, body, len / 4, slots) {
         return Step::Stop(Refusal::NoSuchSlot);
-    }
-    if repeats::any_twice(s, body, len / 4, slots) {
-        return Step::Stop(Refusal::ParameterTwice);
     }
     Step::Next(end, kind)
 }

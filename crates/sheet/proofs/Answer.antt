@@ -12,8 +12,8 @@ use Rattle.operands.specs.Kinds.{isAwait}
 use Rattle.format.specs.declared.refusal.Refusal.{Refusal}
 use Rattle.format.specs.declared.refusal.Refusal.the-variants.{TooMany, NoCode}
 use Rattle.format.specs.Refusals.{due, orElse}
-use Rattle.format.specs.Heads.{kindAt, endAt}
-use Rattle.records.specs.Records.{functionFault, parametersFault, slotFault, instructionFault}
+use Rattle.format.specs.Heads.{kindAt, endAt, fieldsAt}
+use Rattle.records.specs.Records.{functionFault, parameterSlotsFault, repeatFault, parametersFault, slotFault, instructionFault}
 use Rattle.records.proofs.Passed.{none-due}
 use Rattle.sheet.specs.declared.script.Script.{Script}
 use Rattle.sheet.specs.declared.script.Checked.{Checked}
@@ -41,7 +41,7 @@ use Rattle.sheet.specs.Decode.{
   recordsFrom,
   partsOf,
 }
-use Rattle.sheet.specs.Stages.{firstOf, lastKind, awaitsFrom, oneIf, answer, withCode, atEnd, atCode, atSlots, atParameters, atSizes}
+use Rattle.sheet.specs.Stages.{firstOf, lastKind, awaitsFrom, oneIf, answer, withCode, atEnd, atCode, atSlots, atRepeats, atParameters, atSizes}
 use Rattle.sheet.specs.Scripts.{hostWords, awaitsIn, scriptOf, checkedBy, checkedOf}
 use Rattle.sheet.proofs.WalkLaws.{or-first}
 
@@ -105,6 +105,11 @@ last-answer : (f : Option Refusal) (id : ℕ) (x : Script) → checkedBy f id x 
 last-answer none id x = refl
 last-answer (some r) id x = refl
 
+-- two refusals, one after the other
+answer-or : (f g : Option Refusal) (id : ℕ) (r : Checked) → answer f id (answer g id r) ≡ answer (orElse f g) id r
+answer-or none g id r = refl
+answer-or (some q) g id r = refl
+
 -- sizes that fit
 pub some-code : (slots n : ℕ) → sizesFault slots n ≡ none → 1 ≤ n
 unfolding sizesFault
@@ -132,9 +137,10 @@ module _ (s : List ℕ) where
   rest = orElse (parametersFault s (slotsIn s) (parametersAt s)) (orElse (slotsFault s) (orElse (codeFault s) (endFault s)))
 
   after-sizes : 1 ≤ countIn s → atParameters s (idIn s) (slotsIn s) (countIn s) (parametersAt s) ≡ checkedBy rest (idIn s) (scriptOf s)
-  unfolding rest atParameters atSlots atCode scriptOf
+  unfolding rest atParameters atRepeats atSlots atCode scriptOf parametersFault repeatFault fieldsAt
   after-sizes h =
-      ap (λ (r : Checked). answer (parametersFault s (slotsIn s) (parametersAt s)) (idIn s)
+      answer-or (parameterSlotsFault s (slotsIn s) (parametersAt s)) (repeatFault s (parametersAt s)) (idIn s) _
+      ∙ ap (λ (r : Checked). answer (parametersFault s (slotsIn s) (parametersAt s)) (idIn s)
       (answer (slotsFault s) (idIn s) (answer (codeFault s) (idIn s) r))) (ended h)
       ∙ ap (λ (r : Checked). answer (parametersFault s (slotsIn s) (parametersAt s)) (idIn s) (answer (slotsFault s) (idIn s) r))
       (sym (or-answer (codeFault s) (endFault s) (idIn s) (scriptOf s)))

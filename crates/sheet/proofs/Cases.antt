@@ -10,7 +10,7 @@ use Rattle.repeats.specs.Repeats.{anyTwice}
 use Rattle.format.specs.Heads.{fieldsAt, short}
 use Rattle.format.specs.Types.{absent, reference, tuple, no-more, item, itemsAt, leaf, typeAt, wholeType}
 use Rattle.format.specs.Fields.{badModule, noSlot, noTarget, anyField, anyAbove}
-use Rattle.records.specs.Records.{functionFault, parametersFault, badSlot, slotFault, badInstruction, instructionFault}
+use Rattle.records.specs.Records.{functionFault, parameterSlotsFault, repeatFault, parametersFault, badSlot, slotFault, badInstruction, instructionFault}
 use Rattle.sheet.specs.Decode.{
   dues,
   sizesFault,
@@ -208,7 +208,7 @@ pub record Cases : Type 0 where
   pub seven-before-seventeen : decode twiceAndAbove ≡ refused 7 7
 
 pub cases : Cases
-unfolding groups patternIn patternOf roleIn roleAt fixedAt listAt fits endsBlock numbersAt fieldsAt short itemsAt leaf typeAt wholeType badModule noSlot noTarget anyField anyAbove anyTwice functionFault parametersFault badSlot slotFault badInstruction instructionFault dues sizesFault faultAt firstBad offsetOf endFault refusal idOf recordsFrom partsOf decode
+unfolding groups patternIn patternOf roleIn roleAt fixedAt listAt fits endsBlock numbersAt fieldsAt short itemsAt leaf typeAt wholeType badModule noSlot noTarget anyField anyAbove anyTwice functionFault parameterSlotsFault repeatFault parametersFault badSlot slotFault badInstruction instructionFault dues sizesFault faultAt firstBad offsetOf endFault refusal idOf recordsFrom partsOf decode
 cases = record {
   no-code = refl;
   await-return = refl;

@@ -11,11 +11,11 @@ use lib.ListN.{length}
 use Rattle.operands.specs.Kinds.{endsBlock}
 use Rattle.format.specs.declared.refusal.Refusal.{Refusal}
 use Rattle.format.specs.declared.refusal.Refusal.the-variants.{LeftOver, TooMany, NoCode, OpenEnd}
-use Rattle.format.specs.Refusals.{due, orElse}
+use Rattle.format.specs.Refusals.{due}
 use Rattle.format.specs.Heads.{kindAt, endAt}
 use Rattle.records.specs.Records.{functionFault, parametersFault}
 use Rattle.format.proofs.Or.{or-none}
-use Rattle.records.proofs.Passed.{none-due, parameters-passed}
+use Rattle.records.proofs.Passed.{none-due, neither, parameters-passed}
 use Rattle.format.proofs.HeadLaws.{lies}
 use Rattle.sheet.specs.declared.script.Script.{Script}
 use Rattle.sheet.specs.declared.script.Checked.the-variants.{Passed}
@@ -24,11 +24,6 @@ use Rattle.sheet.specs.Stages.{firstOf}
 use Rattle.sheet.specs.Checks.{Inside}
 use Rattle.sheet.specs.Scripts.{scriptOf, checkedBy, checkedOf}
 use Rattle.sheet.proofs.Answer.{slotsFault, codeFault, by-sorts, some-code}
-
--- of two refusals none is due
-pub neither : (a b : Option Refusal) → orElse a b ≡ none → (a ≡ none) × (b ≡ none)
-neither none b e = (refl, e)
-neither (some r) b e = let z : _≡_ {A = ℕ} 0 1 = cc in absurd (omega arith)
 
 -- no refusal is due, sort by sort
 pub record Clean (s : List ℕ) : Type 0 where
@@ -100,7 +95,7 @@ unfolding scriptOf
 inside-of s e =
     let c = clean s e in
     let p = parameters-passed s (slotsIn s) (parametersAt s) (c .parameters-ok) in
-    let w = lies s (parametersAt s) (p .whole) in
+    let w = lies s (parametersAt s) (p .all-slots .whole) in
     let z = sized s c in
     let u = offset-up s (codeAt s) (countIn s) in
     record {

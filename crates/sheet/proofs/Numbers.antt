@@ -26,7 +26,7 @@ use Rattle.repeats.specs.Repeats.{anyTwice}
 use Rattle.format.specs.Heads.{short, kindAt, endAt, bodyLength, fieldsAt}
 use Rattle.format.specs.Fields.{noSlot, noTarget, anyField, anyAbove}
 use Rattle.operands.specs.Kinds.{endsBlock}
-use Rattle.records.specs.Records.{functionFault, parametersFault, badSlot, slotFault, isInstruction, badInstruction, instructionFault}
+use Rattle.records.specs.Records.{functionFault, parameterSlotsFault, repeatFault, parametersFault, badSlot, slotFault, isInstruction, badInstruction, instructionFault}
 use Rattle.sheet.specs.Decode.{
   Due,
   function,
@@ -84,12 +84,13 @@ low-sizes slots n = low-due (ltb 65536 slots || ltb 65536 n) TooMany _ (omega ar
     (low-due (eqb n 0) NoCode none (omega arith, inl (omega arith)) nothing)
 
 low-parameters : (s : List ℕ) (slots at : ℕ) → Low (parametersFault s slots at)
-unfolding parametersFault
-low-parameters s slots at = low-due (short s at) ShortSheet _ (omega arith, inl (omega arith))
+unfolding parametersFault parameterSlotsFault repeatFault
+low-parameters s slots at = low-or (parameterSlotsFault s slots at) (repeatFault s at)
+    (low-due (short s at) ShortSheet _ (omega arith, inl (omega arith))
     (low-due (not (eqb (kindAt s at) 257)) WrongKind _ (omega arith, inl (omega arith))
     (low-due (not (eqb (bodyLength s at % 4) 0)) BadBody _ (omega arith, inl (omega arith))
-    (low-due (anyAbove slots (fieldsAt s at)) NoSuchSlot _ (omega arith, inl (omega arith))
-    (low-due (anyTwice (fieldsAt s at)) ParameterTwice none (omega arith, inr refl) nothing))))
+    (low-due (anyAbove slots (fieldsAt s at)) NoSuchSlot none (omega arith, inl (omega arith)) nothing))))
+    (low-due (anyTwice (fieldsAt s at)) ParameterTwice none (omega arith, inr refl) nothing)
 
 low-slot : (s : List ℕ) (at : ℕ) → Low (slotFault s at)
 unfolding slotFault

@@ -32,7 +32,7 @@ use Rattle.format.specs.declared.refusal.Refusal.the-variants.{
 }
 use Rattle.format.specs.Refusals.{numberOf, due, orElse}
 use Rattle.format.specs.Heads.{kindAt, endAt}
-use Rattle.records.specs.Records.{functionFault, parametersFault, slotFault, instructionFault}
+use Rattle.records.specs.Records.{functionFault, parameterSlotsFault, repeatFault, parametersFault, slotFault, instructionFault}
 use Rattle.sheet.specs.Decode.{
   countIn,
   Due,
@@ -73,7 +73,8 @@ use Rattle.sheet.specs.Rows.{
   OpenEndGiven,
   PassedGiven,
 }
-use Rattle.sheet.proofs.Checked.{neither, ends-well}
+use Rattle.records.proofs.Passed.{neither}
+use Rattle.sheet.proofs.Checked.{ends-well}
 
 -- a refusal is told by its number; 16 is none yet, and any stands in its place
 refusals : List Refusal
@@ -132,12 +133,17 @@ or-due true r rest z = refl
 or-due false r rest z = refl
 
 by-rows : (s : List ℕ) (d : Due) (at : ℕ) → faultAt s d at ≡ dueIn rows s d at
-unfolding faultAt functionFault parametersFault slotFault instructionFault sizesFault dueIn
+unfolding faultAt functionFault parametersFault parameterSlotsFault repeatFault slotFault instructionFault sizesFault dueIn
 by-rows s function at =
     or-due (shortSheet s function at) ShortSheet _ _
     ∙ ap (due (shortSheet s function at) ShortSheet)
     (or-due (wrongKind s function at) WrongKind _ _ ∙ ap (due (wrongKind s function at) WrongKind) (or-due (badBody s function at) BadBody none _))
-by-rows s parameters at = refl
+by-rows s parameters at =
+    or-due (shortSheet s parameters at) ShortSheet _ _
+    ∙ ap (due (shortSheet s parameters at) ShortSheet)
+    (or-due (wrongKind s parameters at) WrongKind _ _
+    ∙ ap (due (wrongKind s parameters at) WrongKind)
+    (or-due (badBody s parameters at) BadBody _ _ ∙ ap (due (badBody s parameters at) BadBody) (or-due (noSuchSlot s parameters at) NoSuchSlot none _)))
 by-rows s slot at = refl
 by-rows s instruction at = refl
 

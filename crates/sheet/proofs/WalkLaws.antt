@@ -1,22 +1,24 @@
 -- The walk over records: what the loops keep, and what they answer. Assumes nothing.
-use mathlib.Core.Path.{_≡_, refl, ap, sym, _∙_}
+use mathlib.Core.Path.{_≡_, refl, ap, sym, subst, _∙_}
 use mathlib.Core.Bool.{Bool, true, false}
 use mathlib.Core.List.{List}
 use mathlib.Core.Option.{Option, none, some}
-use Prim.Native.Nat.{ℕ, zero, suc, _+_, _*_, _-_, _≤_, _<_}
+use Prim.Native.Nat.{ℕ, zero, suc, _+_, _*_, _-_, _/_, _≤_, _<_}
 use native.Mathlib.Nat.{zero-add, suc-add}
 use native.Mathlib.Omega.{arith}
 use lib.ListN.{length}
+use Rattle.bitset.specs.Below.{AllBelow}
+use Rattle.operands.specs.Bytes.{numbersAt}
 use Rattle.operands.specs.Choice.{pick}
 use Rattle.operands.specs.Kinds.{isAwait}
 use Rattle.format.specs.declared.refusal.Refusal.{Refusal}
 use Rattle.records.specs.declared.record.Step.the-variants.{Next, Stop}
 use Rattle.format.specs.Refusals.{orElse}
-use Rattle.format.specs.Heads.{kindAt, endAt}
-use Rattle.records.specs.Records.{parametersFault, slotFault, plainSlot, plainRun}
+use Rattle.format.specs.Heads.{kindAt, endAt, fieldsAt}
+use Rattle.records.specs.Records.{parameterSlotsFault, slotFault, plainSlot, plainRun}
 use Rattle.records.specs.Steps.{stepOf}
 use Rattle.format.proofs.HeadLaws.{lies}
-use Rattle.records.proofs.Passed.{parameters-passed}
+use Rattle.records.proofs.Passed.{none-above, slots-passed}
 use Rattle.records.proofs.PlainLaws.{plain, plain-due}
 use Rattle.records.proofs.RunLaws.{plain-run-most}
 use Rattle.sheet.specs.Decode.{offsetOf}
@@ -41,12 +43,24 @@ halted none end kind r e = let z : _≡_ {A = ℕ} 0 1 = cc in absurd (omega ari
 halted (some q) end kind r e = let p : r ≡ q = cc in ap some (sym p)
 
 -- a parameter record that passed lies in the sheet
-pub parameters-lie : (s : List ℕ) (slots at x y : ℕ) → Next x y ≡ stepOf (parametersFault s slots at) (endAt s at) (kindAt s at)
+pub parameters-lie : (s : List ℕ) (slots at x y : ℕ) → Next x y ≡ stepOf (parameterSlotsFault s slots at) (endAt s at) (kindAt s at)
     → (at + 4 ≤ x) × (x ≤ length s)
 parameters-lie s slots at x y e =
-    let w = went (parametersFault s slots at) (endAt s at) (kindAt s at) x y e in
-    let l = lies s at (parameters-passed s slots at (w .no-fault) .whole) in
+    let w = went (parameterSlotsFault s slots at) (endAt s at) (kindAt s at) x y e in
+    let l = lies s at (slots-passed s slots at (w .no-fault) .whole) in
     (omega (arith, l .ordered, w .is-end), omega (arith, l .within, w .is-end))
+
+-- its parameters lie in the sheet, and each is a slot
+pub parameters-below : (s : List ℕ) (slots at x y : ℕ) → Next x y ≡ stepOf (parameterSlotsFault s slots at) (endAt s at) (kindAt s at)
+    → (at + 4 + 4 * ((x - (at + 4)) / 4) ≤ length s) × AllBelow slots (numbersAt s (at + 4) ((x - (at + 4)) / 4))
+unfolding fieldsAt
+parameters-below s slots at x y e =
+    let w = went (parameterSlotsFault s slots at) (endAt s at) (kindAt s at) x y e in
+    let p = slots-passed s slots at (w .no-fault) in
+    let l = parameters-lie s slots at x y e in (
+      omega (arith, l .0, l .1),
+      subst (λ (end : ℕ). AllBelow slots (numbersAt s (at + 4) ((end - (at + 4)) / 4))) (sym (w .is-end)) (none-above slots (fieldsAt s at) (p .below)),
+    )
 
 -- the run from record i on, at an offset, is the run from the first
 pub record Run (fault : ℕ → Option Refusal) (s : List ℕ) (n first at i : ℕ) : Type 0 where

@@ -5,14 +5,16 @@ use mathlib.Core.Option.{Option, none, some}
 use Prim.Native.Nat.{ℕ, zero, suc, _+_, _-_, _/_}
 use lib.Dec.{eqb}
 use lib.ListN.{length}
+use Rattle.operands.specs.Bytes.{numbersAt}
 use Rattle.operands.specs.Choice.{pick}
 use Rattle.operands.specs.Kinds.{endsBlock, isAwait}
 use Rattle.format.specs.declared.refusal.Refusal.{Refusal}
-use Rattle.format.specs.declared.refusal.Refusal.the-variants.{ShortSheet, LeftOver, OpenEnd}
+use Rattle.format.specs.declared.refusal.Refusal.the-variants.{ShortSheet, LeftOver, OpenEnd, ParameterTwice}
 use Rattle.records.specs.declared.record.Step.{Step}
 use Rattle.format.specs.Refusals.{due, orElse}
+use Rattle.repeats.specs.Repeats.{anyTwice}
 use Rattle.format.specs.Heads.{kindAt, endAt}
-use Rattle.records.specs.Records.{parametersFault, slotFault, instructionFault}
+use Rattle.records.specs.Records.{parameterSlotsFault, slotFault, instructionFault}
 use Rattle.records.specs.Steps.{stepOf}
 use Rattle.sheet.specs.declared.script.Script.{Script}
 use Rattle.sheet.specs.declared.script.Checked.{Checked}
@@ -112,11 +114,15 @@ atSlots s x =
     answer (firstOf (λ a. slotFault s a) s (x .«slots_at») (x .slots)) (x .id)
     (atCode s (withCode x (offsetOf s (x .«slots_at») (x .slots)) (hostWords s (x .«slots_at») (x .slots) 0 0) 0))
 
+-- 17
+unfoldable pub atRepeats : List ℕ → Script → Checked
+atRepeats s x = answer (due (anyTwice (numbersAt s (x .«params_at») (x .params))) ParameterTwice none) (x .id) (atSlots s x)
+
 -- the parameter record
 unfoldable pub atParameters : List ℕ → ℕ → ℕ → ℕ → ℕ → Checked
 atParameters s id slots n at =
-    answer (parametersFault s slots at) id
-    (atSlots s (record {
+    answer (parameterSlotsFault s slots at) id
+    (atRepeats s (record {
       id = id;
       slots = slots;
       count = n;

@@ -12,9 +12,13 @@ use script::Script;
 use walk::Code;
 use walk::Slots;
 ghost use mathlib.Core.Path.{_≡_};
+ghost use Prim.Native.Nat.{_+_, _*_, _≤_};
+ghost use lib.ListN.{length};
+ghost use Rattle.bitset.specs.Below.{AllBelow};
+ghost use Rattle.operands.specs.Bytes.{numbersAt};
 ghost use Rattle.reader.specs.Steps.{dueStep};
 ghost use Rattle.sheet.specs.Checks.{Checks};
-ghost use Rattle.sheet.specs.Stages.{atEnd, atCode, atSlots, atParameters, atSizes};
+ghost use Rattle.sheet.specs.Stages.{atEnd, atCode, atSlots, atRepeats, atParameters, atSizes};
 
 // After the last record: 4, then 9.
 fn check_end(s: &[u8], script: Script, end: usize, last: usize) -> Checked
@@ -79,6 +83,17 @@ fn check_slots(s: &[u8], script: Script) -> Checked
     )
 }
 
+// The parameters of a script, each named once: 17. This stands here and not behind the reader, so that the parameter record stays small there.
+fn check_repeats(s: &[u8], script: Script) -> Checked
+    requires { ⌜ (script .«params_at» + 4 * script .params ≤ length (now s)) × AllBelow (script .slots) (numbersAt (now s) (script .«params_at») (script .params)) ⌝ }
+    ensures { λ r. ⌜ r ≡ atRepeats (now (s .entry)) script ⌝ }
+{
+    if repeats::any_twice(s, script.params_at, script.params, script.slots) {
+        return Checked::Refused(Refusal::ParameterTwice, script.id);
+    }
+    check_slots(s, script)
+}
+
 // The parameter record. It and the function record are read in functions of their own, so that the compiler leaves no call of the reader in the
 // loop over the instructions (docs/DECISIONS.md).
 fn parameter_record(s: &[u8], slots: usize, count: usize, at: usize) -> Step
@@ -95,7 +110,7 @@ fn check_parameters(s: &[u8], id: u32, slots: usize, count: usize, at: usize) ->
     let Step::Next(next, _) = step else {
         return Checked::Refused(step.refusal(), id);
     };
-    check_slots(
+    check_repeats(
         s,
         Script {
             id: id,

@@ -4,9 +4,9 @@ use native.Mathlib.Omega.{arith}
 use denote.Ref.{now}
 use borrow.Author.Needs.{needs}
 use Rattle.format.specs.Heads.{kindAt, endAt}
-use Rattle.records.specs.Records.{parametersFault}
+use Rattle.records.specs.Records.{parameterSlotsFault}
 use Rattle.sheet.specs.Stages.{atParameters}
-use Rattle.sheet.proofs.WalkLaws.{went, halted, parameters-lie}
+use Rattle.sheet.proofs.WalkLaws.{went, halted, parameters-lie, parameters-below}
 use Rattle.sheet.proofs.check_parameters.Statement.{statement}
 use Rattle.sheet.proofs.check_parameters.Tie as tie
 
@@ -28,7 +28,7 @@ returns c =
     let a = c .before .before .before .before .before .args in
     let s = now (a .s) in
     let t = c .before .enum-told .given in
-    let h = halted (parametersFault s (a .slots) (a .at)) (endAt s (a .at)) (kindAt s (a .at)) (t .0 .0)
+    let h = halted (parameterSlotsFault s (a .slots) (a .at)) (endAt s (a .at)) (kindAt s (a .at)) (t .0 .0)
     (sym (t .1) ∙ c .before .before .before .parameter-record .ensures) in
     rw (c .refusal .ensures, t .1, h)
 
@@ -56,8 +56,11 @@ sub-t11 c =
     let l = parameters-lie s (a .slots) (a .at) (g .0 .0) (g .0 .1 .0) (sym (g .1) ∙ c .before .before .before .parameter-record .ensures) in
     omega (arith, l .0, l .1)
 
-check-slots-requires : tie.Need-check-slots-requires
-check-slots-requires c κs = search needs
+check-repeats-requires : tie.Need-check-repeats-requires
+check-repeats-requires c κs =
+    let a = c .before .before .before .before .before .args in
+    let g = c .before .step .given in
+    parameters-below (now (a .s)) (a .slots) (a .at) (g .0 .0) (g .0 .1 .0) (sym (g .1) ∙ c .before .before .before .parameter-record .ensures)
 
 returns-2 : tie.Need-returns-2
 unfolding atParameters
@@ -65,9 +68,9 @@ returns-2 c =
     let a = c .before .before .before .before .before .before .args in
     let s = now (a .s) in
     let g = c .before .before .step .given in
-    let w = went (parametersFault s (a .slots) (a .at)) (endAt s (a .at)) (kindAt s (a .at)) (g .0 .0) (g .0 .1 .0)
+    let w = went (parameterSlotsFault s (a .slots) (a .at)) (endAt s (a .at)) (kindAt s (a .at)) (g .0 .0) (g .0 .1 .0)
     (sym (g .1) ∙ c .before .before .before .before .parameter-record .ensures) in
-    rw (w .no-fault, ← w .is-end) (c .check-slots .ensures)
+    rw (w .no-fault, ← w .is-end) (c .check-repeats .ensures)
 
 pub check-parameters-spec : {M : Type 1} → statement M
 check-parameters-spec =
@@ -81,5 +84,5 @@ check-parameters-spec =
     add-t9
     add-t10
     sub-t11
-    check-slots-requires
+    check-repeats-requires
     returns-2)
