@@ -74,6 +74,7 @@ number-some WorkLimit = omega arith
 number-some UnfilledSlot = omega arith
 number-some HostOverAwait = omega arith
 number-some FactsLimit = omega arith
+number-some ParameterTwice = omega arith
 
 -- ---- an answer in numbers is that of one outcome
 
