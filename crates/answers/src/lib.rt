@@ -1,10 +1,10 @@
-// What every form of the call shares: its answer, and the sheet examined as a call does that is handed no added set.
+// What every form of the call shares: its answer, and the sheet examined as a call does that is handed neither limits nor an added set.
 ghost use Rattle.std.specs.Prelude.{◌≡◌};
-ghost use Rattle.budget.specs.Budget.{todays, counted};
+ghost use Rattle.budget.specs.Budget.{todays};
 ghost use Rattle.sheet.specs.Decode.{parts_of};
 ghost use Rattle.script.specs.Script.{parameter_in};
 ghost use Rattle.examine.specs.Examine.{Examines};
-ghost use Rattle.answers.specs.Answers.{answer_in, answer_within, layout_in};
+ghost use Rattle.answers.specs.Answers.{answer_in, layout_in};
 
 use budget::{FlowBudget, Limits};
 use examine::Examined;
@@ -18,13 +18,6 @@ pub enum Answer {
     Refused(Refusal, u32, FlowBudget),
 }
 
-// The answer of a call that is handed limits, which come back as they were given.
-#[derive(Drop)]
-pub struct AnswerWithin {
-    pub answer: Answer,
-    pub limits: Limits,
-}
-
 // The sheet examined with today's limits; its parameters are its own.
 pub fn examined(
     sheet: &[u8],
@@ -35,22 +28,8 @@ pub fn examined(
 ) -> Examined
     ensures { Examines sheet.now (parameter_in (parts_of sheet.now)) todays records budget s.old s.new t.old t.new result }
 {
-    examined_within(sheet, Limits::todays(), s, t, records, budget)
-}
-
-// The same with these limits, each of which counts as at most today's.
-pub fn examined_within(
-    sheet: &[u8],
-    limits: Limits,
-    s: &mut [u64],
-    t: &mut [u64],
-    records: usize,
-    budget: FlowBudget,
-) -> Examined
-    ensures { Examines sheet.now (parameter_in (parts_of sheet.now)) (counted limits) records budget s.old s.new t.old t.new result }
-{
     let none = [0u64; 1];
-    added::examine_asked(sheet, limits, s, t, records, budget, &none, false)
+    examine::examine(sheet, &none, Limits::todays(), budget, s, t, records)
 }
 
 // The layout of the blocks in scratch: none after a refusal.
@@ -78,16 +57,5 @@ pub fn answer_of(e: Examined) -> Answer
             Answer::Accepted(id, y.blocks, awaits, budget)
         }
         Examined::Refused(r, id, budget) => Answer::Refused(r, id, budget),
-    }
-}
-
-// The answer without the layout, with the limits as they were given.
-pub fn answer_within(e: Examined, limits: Limits) -> AnswerWithin
-    ensures { result ≡ answer_within e limits }
-{
-    let a = answer_of(e);
-    AnswerWithin {
-        answer: a,
-        limits: limits,
     }
 }

@@ -15,31 +15,17 @@ use Rattle.budget.specs.declared.Charged.TheVariants.{Ok, Over}
 use Rattle.budget.specs.Budget.{todays, counted, NowhereLower, after_spent, charged, retained}
 use Rattle.budget.proofs.BudgetLaws.{over-not_ok}
 
--- one by one
-abbrev limits_of : ℕ → ℕ → ℕ → Limits
-limits_of a b c = record { work = a; state = b; facts = c }
-
-limits-are : (a b c : ℕ) → a ≡ todays.work → b ≡ todays.state → c ≡ todays.facts → limits_of a b c ≡ todays
-limits-are a b c p q r =
-    ap (λ (n : ℕ). limits_of n b c) p ∙ ap (λ (n : ℕ). limits_of todays.work n c) q ∙ ap (λ (n : ℕ). limits_of todays.work todays.state n) r
-
 -- today's count as they are
 pub counted-todays : counted todays ≡ todays
 counted-todays = refl
 
--- and so do all that are nowhere lower than today's
-pub counted-above : (l : Limits) → NowhereLower todays l → counted l ≡ todays
-counted-above l le =
-    limits-are (min l.work todays.work) (min l.state todays.state) (min l.facts todays.facts) (omega (arith, le.work))
-    (omega (arith, le.state)) (omega (arith, le.facts))
-
--- limits that are nowhere lower count as nowhere lower
-pub counted-monotone : (l h : Limits) → NowhereLower l h → NowhereLower (counted l) (counted h)
-counted-monotone l h le = record { work = omega (arith, le.work); state = omega (arith, le.state); facts = omega (arith, le.facts) }
-
 -- a sum of work that fits no u64 crosses them
 pub counted-below : (l k : Limits) → k ≡ counted l → k.work < 2 ^ 64 - 1
 counted-below l k e = omega (arith, ap (λ (z : Limits). z.work) e)
+
+-- one by one
+abbrev limits_of : ℕ → ℕ → ℕ → Limits
+limits_of a b c = record { work = a; state = b; facts = c }
 
 pub counted_is : (l t : Limits) (a b c : ℕ) → t ≡ todays → a ≡ min l.work t.work → b ≡ min l.state t.state
     → c ≡ min l.facts t.facts → record { work = a; state = b; facts = c } ≡ counted l

@@ -10,8 +10,7 @@ pub struct FlowBudget {
     pub retained: u64,
 }
 
-// What work, state and retained facts may not exceed. Hosts in C and Rust hand it in as it is.
-#[repr(C)]
+// What work, state and retained facts may not exceed.
 #[derive(Drop)]
 pub struct Limits {
     pub work: u64,

@@ -3,7 +3,6 @@ pub mod Bools
 pub mod Lists
 pub mod Paths
 pub mod Analyses
-pub mod Parameters
 pub mod Forward
 pub mod Backward
 pub mod Blocks

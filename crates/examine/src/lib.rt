@@ -1,4 +1,4 @@
-// A sheet that passed the checks, examined: the judging of its script, and the sets buffer as it is left.
+// A sheet examined: the checks of the sheet, the judging of its script, and the sets buffer as it is left.
 pub mod clear;
 
 ghost use Rattle.std.specs.Prelude.{◌≡◌};
@@ -12,7 +12,7 @@ ghost use Rattle.sizes.specs.Sizes.{answer_words};
 use budget::{FlowBudget, Limits};
 use format::refusal::Refusal;
 use judge::Judged;
-use sheet::script::Script;
+use sheet::script::{Checked, Script};
 use sizes::Layout;
 
 // Accepted with the function's id, the layout of scratch, how many awaits are reached, and the budget; or refused with the id and the budget.
@@ -22,9 +22,27 @@ pub enum Examined {
     Refused(Refusal, u32, FlowBudget),
 }
 
-// A sheet that passed the checks is judged, with the slots of `added` as parameters beside the sheet's own (words that it lacks count as zero, and what is
+// The sheet checks, then the judging, with the slots of `added` as parameters beside the sheet's own (words that it lacks count as zero, and what is
 // no slot is not looked at), and with each limit at most today's. After a refusal the sets buffer is zero; after acceptance it holds the answer and
 // then zeros, and scratch the blocks. The caller clears scratch. `records` is how many block records are lent.
+pub fn examine(
+    sheet: &[u8],
+    added: &[u64],
+    limits: Limits,
+    budget: FlowBudget,
+    s: &mut [u64],
+    t: &mut [u64],
+    records: usize,
+) -> Examined
+    ensures { Examines sheet.now (parameter_with (parts_of sheet.now) added.now) (counted limits) records budget s.old s.new t.old t.new result }
+{
+    match sheet::check(sheet) {
+        Checked::Refused(r, id) => refuse(t, r, id, budget),
+        Checked::Passed(script) => passed(sheet, script, added, limits, budget, s, t, records),
+    }
+}
+
+// The same of a sheet that passed the checks: for an entry that asks more of the script before it is judged.
 pub fn passed(
     sheet: &[u8],
     script: Script,
@@ -63,8 +81,8 @@ fn accept(t: &mut [u64], id: u32, y: Layout, awaits: usize, left: FlowBudget) ->
     Examined::Accepted(id, y, awaits, left)
 }
 
-// A refusal; the sets buffer is cleared.
-pub fn refuse(t: &mut [u64], r: Refusal, id: u32, left: FlowBudget) -> Examined
+// The sets buffer is cleared.
+fn refuse(t: &mut [u64], r: Refusal, id: u32, left: FlowBudget) -> Examined
     ensures { (result ≡ Examined.Refused r id left) × (t.new ≡ zeros t.old) }
 {
     clear::clear(t);

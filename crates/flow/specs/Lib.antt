@@ -1,4 +1,2 @@
 -- The call that checks a sheet.
 pub mod Verify
-pub mod Within
-pub mod With

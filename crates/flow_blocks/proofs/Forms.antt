@@ -1,4 +1,4 @@
--- What the walks of a call with block structs name: the types of the locals, and what a callee asks that requires nothing. Assumes nothing.
+-- What both walks of a call with block structs name: the types of the locals, and what a callee asks that requires nothing. Assumes nothing.
 use Prim.Native.Nat.{ℕ}
 use seplogic.Ra.Ura.{Ura}
 use mir.Syntax.{Ty, named, erased, mut, imm, w8, w64, ty_int, ty_ref}
@@ -14,14 +14,8 @@ word = ty_int w64
 abbrev pub bytes : Ty
 bytes = slice_ty (ty_ref (named 0) imm (ty_int w8))
 
-abbrev pub shared_words : ℕ → Ty
-shared_words i = slice_ty (ty_ref (named i) imm word)
-
-abbrev pub list_at : ℕ → Ty
-list_at i = slice_ty (ty_ref (named i) mut (pointee (T.the_row).written))
-
 abbrev pub list : Ty
-list = list_at 1
+list = slice_ty (ty_ref (named 1) mut (pointee (T.the_row).written))
 
 abbrev pub words : ℕ → Ty
 words i = slice_ty (ty_ref (named i) mut word)

@@ -1,9 +1,8 @@
--- What the call with block structs does: what every form of the call does, and the block list as structs. The contract of `verify` is this with today's
--- limits.
+-- The contract of `verify`: that of every form of the call, and the block list as structs.
 use Rattle.std.specs.Prelude.{◌≡◌, List, ◌++◌, ℕ, ◌-◌, length, replicate}
 use Rattle.dataflow.specs.Lists.{tabulate}
 use Rattle.budget.specs.declared.FlowBudget.{FlowBudget}
-use Rattle.budget.specs.declared.Limits.{Limits}
+use Rattle.budget.specs.Budget.{todays}
 use Rattle.sheet.specs.Decode.{parts_of}
 use Rattle.script.specs.Script.{flow_code, parameter_in}
 use Rattle.outcome.specs.Outcome.{Lengths, lengths_with, Outcome, accepted, refused}
@@ -27,10 +26,9 @@ module _ (s : List ℕ) where
 abbrev pub lengths_of : List Block → List ℕ → List ℕ → Lengths
 lengths_of list v w = lengths_with w v (length list)
 
--- What the call does with a sheet s, the limits l as they count, a budget b, the block list, and the words of the sets buffer and of scratch (primed: at
--- exit).
-pub record BlocksVerified (s : List ℕ) (l : Limits) (b : FlowBudget) (list list' : List Block) (v v' w w' : List ℕ) (r : Answer) : Type 0 where
-  -- the answer, the sets buffer and scratch: with the sheet's own parameters
-  pub verified : Verified s (parameter_in (parts_of s)) l (lengths_of list v w) b (outcome_by r) v' w'
+-- What `verify` does with a sheet s, a budget b, the block list, and the words of the sets buffer and of scratch (primed: at exit).
+pub record BlocksVerified (s : List ℕ) (b : FlowBudget) (list list' : List Block) (v v' w w' : List ℕ) (r : Answer) : Type 0 where
+  -- the answer, the sets buffer and scratch: with the sheet's own parameters and today's limits
+  pub verified : Verified s (parameter_in (parts_of s)) todays (lengths_of list v w) b (outcome_by r) v' w'
   -- what the block list holds, on every outcome
   pub blocks : list' ≡ blocks_after s (lengths_of list v w) (outcome_by r)

@@ -1,5 +1,3 @@
--- Laws of the exported calls.
+-- Laws of the exported call.
 pub mod HostLaws
 pub mod LoadLaws
-pub mod WithinLaws
-pub mod WithLaws

@@ -13,6 +13,7 @@ use Rattle.dataflow.specs.Lists.{pick}
 use Rattle.dataflow.proofs.Bools.{or_no_left, or_no_right}
 use Rattle.budget.specs.declared.FlowBudget.{FlowBudget}
 use Rattle.budget.specs.declared.Limits.{Limits}
+use Rattle.budget.specs.Budget.{todays}
 use Rattle.format.specs.declared.refusal.Refusal.{Refusal}
 use Rattle.format.specs.declared.refusal.Refusal.TheVariants.{NoRoom}
 use Rattle.sizes.specs.Sizes.{sets_words, scratch_words}
@@ -31,13 +32,10 @@ use Rattle.block_records.specs.declared.Block.{Block}
 use Rattle.flow_blocks.specs.BlocksVerify.{lengths_of}
 use Rattle.load.specs.declared.Loaded.TheVariants.{Is, Refused}
 use Rattle.load.specs.Load.{words_needed, saturated, load_of, loaded_by, loaded_of}
-use Rattle.host_answers.specs.declared.FlowAnswer.{FlowAnswer}
-use Rattle.host_answers.specs.declared.LoadAnswer.{LoadAnswer}
-use Rattle.host_answers.specs.Numbers.{answer_of}
-use Rattle.host_answers.specs.Load.{load_answer_of}
-use Rattle.host_answers.proofs.NumberLaws.{number_some}
-use Rattle.flow_c.specs.Verify.{defined_outcome, HostVerified}
-use Rattle.flow_c.specs.Load.{host_load}
+use Rattle.flow_c.specs.declared.FlowAnswer.{FlowAnswer}
+use Rattle.flow_c.specs.declared.LoadAnswer.{LoadAnswer}
+use Rattle.flow_c.specs.Exports.{answer_of, defined_outcome, HostVerified, load_answer_of, host_load}
+use Rattle.flow_c.proofs.HostLaws.{number_some}
 
 module _ (s : List ℕ) (parameter : ℕ → Bool) (l : Limits) (n : Lengths) (b : FlowBudget) where
   -- an acceptance: the sheet passed, and the words that its answer takes were lent
@@ -89,16 +87,16 @@ module _ (s : List ℕ) (parameter : ℕ → Bool) (l : Limits) (n : Lengths) (b
       ∙ ap₂ (λ (c : Bool) (i : ℕ). pick c (Refused NoRoom i) (Is i (saturated (load_of (parts_of s) v blocks awaits)))) t (sym r.1)
 
 -- so of the two exported calls, one after the other: number 0, the same function id, and the load
-pub host-loads : {s : List ℕ} {l : Limits} {b : FlowBudget} {list list' : List Block} {v v' w w' : List ℕ} {r : FlowAnswer}
-    → HostVerified s l b list list' v v' w w' r → r.number ≡ 0 → length v ≤ length v'
+pub host-loads : {s : List ℕ} {b : FlowBudget} {list list' : List Block} {v v' w w' : List ℕ} {r : FlowAnswer}
+    → HostVerified s b list list' v v' w w' r → r.number ≡ 0 → length v ≤ length v'
     → host_load s v' r.blocks r.awaits ≡ record { number = 0; function = r.function; load = saturated (load_of (parts_of s) v' r.blocks r.awaits) }
-host-loads {s} {l} {b} {list} {list'} {v} {v'} {w} {w'} {r} h zero_number long = go (defined_outcome s l b list v w) refl h.answer
+host-loads {s} {b} {list} {list'} {v} {v'} {w} {w'} {r} h zero_number long = go (defined_outcome s b list v w) refl h.answer
   where
-    go : (o : Outcome) → defined_outcome s l b list v w ≡ o → r ≡ answer_of o
+    go : (o : Outcome) → defined_outcome s b list v w ≡ o → r ≡ answer_of o
         → host_load s v' r.blocks r.awaits ≡ record { number = 0; function = r.function; load = saturated (load_of (parts_of s) v' r.blocks r.awaits) }
     go (accepted id blocks awaits left) e q =
         ap₂ (λ (i j : ℕ). host_load s v' i j) (ap (λ (f : FlowAnswer). f.blocks) q) (ap (λ (f : FlowAnswer). f.awaits) q)
-        ∙ ap load_answer_of (accepted_loads s (parameter_in (parts_of s)) l (lengths_of list v w) b e v' long)
+        ∙ ap load_answer_of (accepted_loads s (parameter_in (parts_of s)) todays (lengths_of list v w) b e v' long)
         ∙ sym (ap (λ (f : FlowAnswer). load_of_answer f) q)
       where
         load_of_answer : FlowAnswer → LoadAnswer

@@ -1,15 +1,32 @@
-// The calls for hosts in C and Rust.
+// The call for hosts in C and Rust.
 ghost use Rattle.std.specs.Prelude.{◌≡◌};
-ghost use Rattle.budget.specs.Budget.{todays};
-ghost use Rattle.host_answers.specs.Numbers.{budget_of};
-ghost use Rattle.flow_c.specs.Verify.{HostVerified};
-ghost use Rattle.flow_c.specs.Within.{HostVerifiedWithin};
-ghost use Rattle.flow_c.specs.With.{HostVerifiedWith};
-ghost use Rattle.flow_c.specs.Load.{host_load};
+ghost use Rattle.answers.specs.Answers.{outcome_by};
+ghost use Rattle.flow_c.specs.Exports.{budget_of, answer_of, HostVerified, load_answer_of, host_load};
 
+use answers::Answer;
 use block_records::Block;
-use budget::Limits;
-use host_answers::{FlowAnswer, FlowAnswerWithin, HostBudget, LoadAnswer};
+use budget::FlowBudget;
+use load::Loaded;
+
+// Work charged and bytes retained so far.
+#[repr(C)]
+#[derive(Drop)]
+pub struct HostBudget {
+    pub work: u64,
+    pub retained: u64,
+}
+
+// Number 0: accepted, with how many blocks there are and how many awaits are reached. Else the number of the refusal, and zeros for these.
+#[repr(C)]
+#[derive(Drop)]
+pub struct FlowAnswer {
+    pub number: u32,
+    pub function: u32,
+    pub blocks: u64,
+    pub awaits: u64,
+    pub work: u64,
+    pub retained: u64,
+}
 
 // Any bytes, any budget, any buffers: as `verify` of crate flow_blocks.
 #[unsafe(no_mangle)]
@@ -20,46 +37,52 @@ pub extern "C" fn kagari_flow_verify(
     sets: &mut [u64],
     scratch: &mut [u64],
 ) -> FlowAnswer
-    ensures { HostVerified sheet.now todays (budget_of budget) blocks.old blocks.new sets.old sets.new scratch.old scratch.new result }
+    ensures { HostVerified sheet.now (budget_of budget) blocks.old blocks.new sets.old sets.new scratch.old scratch.new result }
 {
-    let b = host_answers::budget_of(budget);
+    let b = budget_of(budget);
     let a = flow_blocks::verify(sheet, b, blocks, sets, scratch);
-    host_answers::answer_of(a)
+    answer_of(a)
 }
 
-// The same with these limits, each of which counts as at most today's: as `verify_within` of crate flow_blocks.
-#[unsafe(no_mangle)]
-pub extern "C" fn kagari_flow_verify_within(
-    sheet: &[u8],
-    budget: HostBudget,
-    limits: Limits,
-    blocks: &mut [Block],
-    sets: &mut [u64],
-    scratch: &mut [u64],
-) -> FlowAnswerWithin
-    ensures { HostVerifiedWithin sheet.now limits (budget_of budget) blocks.old blocks.new sets.old sets.new scratch.old scratch.new result }
+fn budget_of(b: HostBudget) -> FlowBudget
+    ensures { result ≡ budget_of b }
 {
-    let b = host_answers::budget_of(budget);
-    let a = flow_blocks::verify_within(sheet, b, limits, blocks, sets, scratch);
-    host_answers::answer_within_of(a)
+    FlowBudget {
+        work: b.work,
+        retained: b.retained,
+    }
 }
 
-// The same with an added set of parameters: as `verify_with` of crate flow_blocks.
-#[unsafe(no_mangle)]
-pub extern "C" fn kagari_flow_verify_with(
-    sheet: &[u8],
-    added: &[u64],
-    budget: HostBudget,
-    limits: Limits,
-    blocks: &mut [Block],
-    sets: &mut [u64],
-    scratch: &mut [u64],
-) -> FlowAnswerWithin
-    ensures { HostVerifiedWith sheet.now added.now limits (budget_of budget) blocks.old blocks.new sets.old sets.new scratch.old scratch.new result }
+fn answer_of(a: Answer) -> FlowAnswer
+    ensures { result ≡ answer_of (outcome_by a) }
 {
-    let b = host_answers::budget_of(budget);
-    let a = flow_blocks::verify_with(sheet, added, b, limits, blocks, sets, scratch);
-    host_answers::answer_within_of(a)
+    match a {
+        Answer::Accepted(id, blocks, awaits, b) => FlowAnswer {
+            number: 0,
+            function: id,
+            blocks: blocks as u64,
+            awaits: awaits as u64,
+            work: b.work,
+            retained: b.retained,
+        },
+        Answer::Refused(r, id, b) => FlowAnswer {
+            number: r.number() as u32,
+            function: id,
+            blocks: 0,
+            awaits: 0,
+            work: b.work,
+            retained: b.retained,
+        },
+    }
+}
+
+// Number 0 and the load. Else the number of the refusal, and load 0.
+#[repr(C)]
+#[derive(Drop)]
+pub struct LoadAnswer {
+    pub number: u32,
+    pub function: u32,
+    pub load: u64,
 }
 
 // Any bytes, any words, any numbers: as `load` of crate load. All lent memory is only read.
@@ -72,5 +95,22 @@ pub extern "C" fn kagari_flow_load(
 ) -> LoadAnswer
     ensures { result ≡ host_load sheet.now sets.now blocks awaits }
 {
-    host_answers::load_answer_of(load::load(sheet, sets, blocks as usize, awaits as usize))
+    load_answer_of(load::load(sheet, sets, blocks as usize, awaits as usize))
+}
+
+fn load_answer_of(a: Loaded) -> LoadAnswer
+    ensures { result ≡ load_answer_of a }
+{
+    match a {
+        Loaded::Is(id, total) => LoadAnswer {
+            number: 0,
+            function: id,
+            load: total,
+        },
+        Loaded::Refused(r, id) => LoadAnswer {
+            number: r.number() as u32,
+            function: id,
+            load: 0,
+        },
+    }
 }

@@ -6,7 +6,7 @@ use Prim.Native.Nat.{ℕ, zero, suc, ◌+◌, ◌*◌, ◌-◌, ◌≤◌, ◌<�
 use native.Mathlib.Omega.{arith}
 use borrow.Author.Tests.{eqb-true, leb-false, ltb-true, ltb-false, lt-leb, le-leb}
 use lib.Dec.{eqb, leb, ltb}
-use Rattle.dataflow.specs.Lists.{pick}
+use Rattle.operands.specs.Choice.{pick}
 use Rattle.operands.specs.Places.{absent}
 use Rattle.operands.specs.Patterns.{Sopt, Dopt, T, M, L, role_at, fixed_at, list_at, fits}
 use Rattle.operands.specs.Bytes.{u32_at, numbers_at}

@@ -7,7 +7,7 @@ use native.Mathlib.Omega.{arith}
 use borrow.Author.Tests.{le-ltb, lt-ltb, ltb-false}
 use lib.Dec.{ltb}
 use lib.ListN.{length}
-use Rattle.dataflow.specs.Lists.{pick}
+use Rattle.operands.specs.Choice.{pick}
 use Rattle.format.specs.declared.head.Head.TheVariants.{Record, Short}
 use Rattle.format.specs.Heads.{u16_at, kind_at, end_at, short}
 use Rattle.format.specs.Answers.{head_at, Inside}

@@ -1,6 +1,6 @@
 -- What the code answers of heads, types and fields.
 use Rattle.std.specs.Prelude.{◌≡◌, Bool, false, ◌||◌, List, ℕ, ◌+◌, ◌≤◌, eqb, length}
-use Rattle.dataflow.specs.Lists.{pick}
+use Rattle.operands.specs.Choice.{pick}
 use Rattle.operands.specs.Patterns.{T, M}
 use Rattle.format.specs.declared.head.Head.{Head}
 use Rattle.format.specs.declared.head.Head.TheVariants.{Record, Short}

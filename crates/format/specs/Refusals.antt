@@ -1,7 +1,7 @@
 -- The refusal table of document 01.
 use Rattle.std.specs.Prelude.{Bool, ℕ}
 use Rattle.std.proofs.Math.Option.{Option, none, some}
-use Rattle.dataflow.specs.Lists.{pick}
+use Rattle.operands.specs.Choice.{pick}
 use Rattle.format.specs.declared.refusal.Refusal.{Refusal}
 use Rattle.format.specs.declared.refusal.Refusal.TheVariants.{
   ShortSheet,

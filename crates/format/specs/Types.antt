@@ -1,7 +1,7 @@
 -- The type of a slot. Document 01: a type is 0 absent (whole type only), 1 other, 2 host, 3 reference, or 4 tuple with a count byte and so
 -- many types, at most 16 tuples deep. A type is read inside its record, before `end`.
 use Rattle.std.specs.Prelude.{Bool, true, false, ◌||◌, List, ℕ, zero, suc, ◌+◌, eqb, leb, get_or}
-use Rattle.dataflow.specs.Lists.{pick}
+use Rattle.operands.specs.Choice.{pick}
 
 -- a type, and the items of a tuple
 mutual

@@ -8,7 +8,7 @@ use native.Mathlib.Omega.{arith}
 use lib.Bits.{bit_or, or_zero_r}
 use lib.ListN.{length, get_or, set, length-set}
 use lib.Seq.{get_or-set_same, set-set, set-get_or}
-use Rattle.dataflow.specs.Lists.{pick}
+use Rattle.operands.specs.Choice.{pick}
 use Rattle.bitset.specs.Operations.{inserted}
 use Rattle.bitset.specs.Rows.{row, patched}
 use Rattle.bitset.proofs.RowLaws.{length-row, get_or-row, length-patched, set-row}

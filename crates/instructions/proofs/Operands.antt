@@ -8,7 +8,7 @@ use borrow.Author.Tests.{leb-false, eqb-true, eqb-false}
 use lib.Dec.{eqb, leb}
 use lib.ListN.{length, get_or, drop, length-drop}
 use lib.Seq.{get_or-drop}
-use Rattle.dataflow.specs.Lists.{pick}
+use Rattle.operands.specs.Choice.{pick}
 use Rattle.operands.specs.Places.{absent, gathered}
 use Rattle.operands.specs.Patterns.{D, S, Sopt, Dopt, T, role_at, fixed_at, list_at, fits}
 use Rattle.operands.specs.Operands.{inputs_of}

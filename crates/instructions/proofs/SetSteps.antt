@@ -10,7 +10,7 @@ use borrow.Author.Tests.{ltb-true, ltb-false}
 use lib.Dec.{ltb}
 use lib.ListN.{length, get_or, replicate, length-replicate}
 use lib.Seq.{ext_get_or}
-use Rattle.dataflow.specs.Lists.{pick}
+use Rattle.operands.specs.Choice.{pick}
 use Rattle.operands.specs.Bytes.{u32_at, numbers_at}
 use Rattle.bitset.specs.Operations.{inserted}
 use Rattle.bitset.specs.Rows.{row, patched, inserted_at}

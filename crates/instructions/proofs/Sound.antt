@@ -7,7 +7,7 @@ use Prim.Native.Nat.{ℕ, zero, suc, ◌+◌, ◌/◌, ◌≤◌, ◌<◌}
 use native.Mathlib.Omega.{arith}
 use lib.ListN.{length, get_or}
 use Rattle.operands.specs.Places.{gathered, absent}
-use Rattle.dataflow.specs.Lists.{pick}
+use Rattle.operands.specs.Choice.{pick}
 use Rattle.operands.specs.Kinds.{is_await}
 use Rattle.operands.specs.Bytes.{numbers_at}
 use Rattle.operands.specs.Patterns.{D, Dopt, role_at, fits}

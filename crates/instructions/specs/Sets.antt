@@ -1,7 +1,7 @@
 -- The sets of parameters and of host slots, in words.
 use Rattle.std.specs.Prelude.{Bool, List, [], ◌∷◌, ℕ, ◌+◌, ◌%◌, ◌^◌, get_or, replicate}
 use Rattle.std.specs.Int.Bits.{bit_or}
-use Rattle.dataflow.specs.Lists.{pick}
+use Rattle.operands.specs.Choice.{pick}
 use Rattle.operands.specs.Patterns.{among}
 use Rattle.bitset.specs.Operations.{inserted}
 use Rattle.format.specs.Types.{absent}

@@ -1,7 +1,7 @@
 // The set of parameters and the set of host slots of a sheet that passed, each in a row of words.
 ghost use Rattle.std.specs.Prelude.{◌≡◌, ◌+◌, ◌*◌, ◌%◌, ◌^◌, ◌≤◌, ◌<◌, length};
 ghost use Rattle.operands.specs.Bytes.{numbers_at};
-ghost use Rattle.dataflow.specs.Lists.{pick};
+ghost use Rattle.operands.specs.Choice.{pick};
 ghost use Rattle.bitset.specs.Rows.{row, patched};
 ghost use Rattle.sheet.specs.Decode.{slot_of, records_from, parts_of};
 ghost use Rattle.instructions.specs.Slots.{SlotsStand};

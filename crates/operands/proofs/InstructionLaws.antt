@@ -8,7 +8,7 @@ use borrow.Author.Tests.{ne_eqb, eqb-true}
 use lib.Dec.{eqb, leb}
 use lib.ListN.{length, get_or, drop, length-append, length-drop, drop_of_length-le}
 use lib.Seq.{get_or-drop}
-use Rattle.dataflow.specs.Lists.{pick}
+use Rattle.operands.specs.Choice.{pick}
 use Rattle.operands.specs.Places.{Place, rest, absent, gathered}
 use Rattle.operands.specs.Patterns.{D, S, Sopt, Dopt, T, role_at, single_of, fixed_at, list_at, fits}
 use Rattle.operands.specs.Operands.{inputs_of, output_of, targets_of, first_of}

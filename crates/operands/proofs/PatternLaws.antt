@@ -7,7 +7,7 @@ use native.Mathlib.Omega.{arith}
 use lib.Dec.{T, eqb, ltb, leb, eqb→eq, ltb→lt}
 use borrow.Author.Tests.{eq-eqb, le-leb, ltb-true, ltb-false, eqb-true, leb-true}
 use lib.ListN.{get_or}
-use Rattle.dataflow.specs.Lists.{pick}
+use Rattle.operands.specs.Choice.{pick}
 use Rattle.operands.specs.Patterns.{D, S, Sopt, Dopt, groups, pattern_in, pattern_of, role_in, role_at, single_of, fixed_at, list_at, fits, word_of}
 use Rattle.operands.specs.ByPattern.{places_from}
 use Rattle.operands.specs.Instructions.{Known}

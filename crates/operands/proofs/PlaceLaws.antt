@@ -6,7 +6,7 @@ use Prim.Native.Nat.{ℕ, zero, suc, ◌+◌, ◌-◌, ◌≤◌, ◌<◌}
 use native.Mathlib.Omega.{arith}
 use lib.Dec.{T, eqb}
 use lib.ListN.{length, get_or, drop, length-append, get_or-append}
-use Rattle.dataflow.specs.Lists.{pick}
+use Rattle.operands.specs.Choice.{pick}
 use Rattle.operands.specs.Places.{Place, one, optional, rest, absent, present, gathered}
 use Rattle.operands.specs.Patterns.{role_at}
 use Rattle.operands.specs.ByPattern.{single_place, places_from}

@@ -1,6 +1,6 @@
 -- The operands of an instruction, by document 01's field patterns: how the code reads them.
 use Rattle.std.specs.Prelude.{List, [], ◌∷◌, ◌++◌, ℕ, zero, suc, ◌+◌, eqb}
-use Rattle.dataflow.specs.Lists.{pick}
+use Rattle.operands.specs.Choice.{pick}
 use Rattle.operands.specs.Places.{Place, one, optional, rest}
 use Rattle.operands.specs.Patterns.{D, S, Sopt, Dopt, T, role_at, fixed_at, list_at}
 use Rattle.operands.specs.Operands.{Roles}

@@ -1,7 +1,7 @@
 -- An instruction where it stands in the bytes of a sheet, and the operands that are read there.
 use Rattle.std.specs.Prelude.{◌≡◌, true, List, [], ◌∷◌, ℕ, zero, suc, ◌+◌, ◌*◌, ◌-◌, ◌≤◌, eqb, length}
 use Rattle.std.proofs.Math.Option.{Option, none, some}
-use Rattle.dataflow.specs.Lists.{pick}
+use Rattle.operands.specs.Choice.{pick}
 use Rattle.operands.specs.Places.{present, gathered}
 use Rattle.operands.specs.Patterns.{fits, word_of}
 use Rattle.operands.specs.ByPattern.{places_from}

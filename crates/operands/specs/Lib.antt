@@ -1,4 +1,5 @@
 -- What the fields of an instruction are, and which slots it reads and writes.
+pub mod Choice
 pub mod Places
 pub mod Variants
 pub mod Patterns

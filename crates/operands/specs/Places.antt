@@ -1,6 +1,6 @@
 -- Where operands stand among the fields of a record, and the values that stand there.
 use Rattle.std.specs.Prelude.{List, [], ◌∷◌, ◌++◌, ℕ, eqb, get_or, drop}
-use Rattle.dataflow.specs.Lists.{pick}
+use Rattle.operands.specs.Choice.{pick}
 
 -- document 01: what a ? field holds where the operand is absent or a constant
 abbrev pub absent : ℕ

@@ -1,7 +1,7 @@
 -- A number as a module slot.
 use Rattle.std.proofs.Math.Option.{Option, none, some}
 use Rattle.std.specs.Prelude.{ℕ, leb}
-use Rattle.dataflow.specs.Lists.{pick}
+use Rattle.operands.specs.Choice.{pick}
 use Rattle.operands.specs.declared.slots.AsModuleSlot.{AsModuleSlot}
 use Rattle.operands.specs.declared.slots.AsModuleSlot.TheVariants.{Is, TooLarge}
 

@@ -1,6 +1,6 @@
 // The operands of an instruction, read where its record stands in a sheet: `slot_inputs` and `slot_output` of operands.rs, and the targets.
 ghost use Rattle.std.specs.Prelude.{◌≡◌, [], ◌+◌, ◌*◌, ◌≤◌, ◌<◌, eqb, length, get_or};
-ghost use Rattle.dataflow.specs.Lists.{pick};
+ghost use Rattle.operands.specs.Choice.{pick};
 ghost use Rattle.operands.specs.Places.{absent, present};
 ghost use Rattle.operands.specs.Patterns.{S, role_at};
 ghost use Rattle.operands.specs.Operands.{inputs_of, output_of, targets_of};

@@ -7,7 +7,7 @@ use native.Mathlib.Omega.{arith}
 use lib.Dec.{eqb, leb}
 use lib.ListN.{length}
 use borrow.Author.Tests.{leb-true, eqb-true}
-use Rattle.dataflow.specs.Lists.{pick}
+use Rattle.operands.specs.Choice.{pick}
 use Rattle.operands.specs.Instructions.{Readable}
 use Rattle.operands.specs.declared.instruction.Instruction.{Instruction}
 use Rattle.operands_c.specs.Exports.{nothing, well_formed, instruction_of, parse}

@@ -1,6 +1,6 @@
 -- The answers of the exported functions, for any kind and any bytes.
 use Rattle.std.specs.Prelude.{Bool, ◌&&◌, List, ℕ, ◌/◌, ◌%◌, eqb, leb, length}
-use Rattle.dataflow.specs.Lists.{pick}
+use Rattle.operands.specs.Choice.{pick}
 use Rattle.operands.specs.Patterns.{fits, word_of}
 use Rattle.operands.specs.Operands.{inputs_of, output_of, targets_of}
 use Rattle.operands.specs.Bytes.{numbers_at}

@@ -7,7 +7,7 @@ use native.Mathlib.Omega.{arith}
 use borrow.Author.Tests.{le-leb, lt-leb, eq-eqb, ne_eqb, eqb-true, eqb-false, leb-true}
 use lib.Dec.{eqb, leb}
 use lib.ListN.{length, get_or}
-use Rattle.dataflow.specs.Lists.{pick}
+use Rattle.operands.specs.Choice.{pick}
 use Rattle.format.specs.declared.types.Typed.TheVariants.{Got}
 use Rattle.format.specs.Heads.{u16_at, kind_at, end_at}
 use Rattle.format.specs.Answers.{Inside, typed_of}

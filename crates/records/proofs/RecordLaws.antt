@@ -7,7 +7,7 @@ use native.Mathlib.Omega.{arith}
 use borrow.Author.Tests.{le-leb, lt-leb, le-ltb, lt-ltb, eq-eqb, ne_eqb}
 use lib.Dec.{eqb, leb}
 use lib.ListN.{get_or}
-use Rattle.dataflow.specs.Lists.{pick}
+use Rattle.operands.specs.Choice.{pick}
 use Rattle.operands.specs.Patterns.{fits}
 use Rattle.operands.specs.Bytes.{numbers_at}
 use Rattle.format.specs.declared.refusal.Refusal.TheVariants.{ShortSheet, WrongKind, BadBody, NoSuchSlot, NoSuchTarget}

@@ -8,7 +8,7 @@ use native.Mathlib.Omega.{arith}
 use borrow.Author.Tests.{ltb-true, ltb-false}
 use lib.Dec.{ltb}
 use lib.ListN.{length}
-use Rattle.dataflow.specs.Lists.{pick}
+use Rattle.operands.specs.Choice.{pick}
 use Rattle.records.specs.Records.{plain_slot, plain_run}
 use Rattle.records.proofs.PlainLaws.{plain, plain_short}
 

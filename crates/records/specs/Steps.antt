@@ -1,7 +1,7 @@
 -- What the code answers of one record.
 use Rattle.std.specs.Prelude.{Bool, List, ℕ, eqb}
 use Rattle.std.proofs.Math.Option.{Option, none, some}
-use Rattle.dataflow.specs.Lists.{pick}
+use Rattle.operands.specs.Choice.{pick}
 use Rattle.format.specs.declared.refusal.Refusal.{Refusal}
 use Rattle.format.specs.declared.refusal.Refusal.TheVariants.{ShortSheet, BadBody, NoSuchSlot, NoSuchTarget}
 use Rattle.format.specs.Refusals.{due}

@@ -1,7 +1,7 @@
-// A call of `verify` or of `verify_within` on lent words that hold garbage.
+// A call of `verify` on lent words that hold garbage.
 use crate::print;
 use crate::text::Request;
-use budget::{FlowBudget, Limits};
+use budget::FlowBudget;
 
 // Answers a request: at most 64 block records, 512 words of sets and 8,192 words of scratch.
 pub fn answer(name: &[u8], sheet: &[u8], request: Request) {
@@ -40,19 +40,6 @@ fn lend(
         work: request.work,
         retained: request.retained,
     };
-    if request.within {
-        let limits = request.limits;
-        run_within(
-            name,
-            sheet,
-            budget,
-            limits,
-            &mut blocks[0..words],
-            &mut sets[0..b],
-            &mut scratch[0..c],
-        );
-        return;
-    }
     run(
         name,
         sheet,
@@ -77,29 +64,6 @@ pub fn run(
     garble(scratch);
     let a = flow::verify(sheet, budget, blocks, sets, scratch);
     print::answer(name, a);
-    print::words(blocks);
-    print::words(sets);
-    print::end(scratch);
-}
-
-// The same with limits.
-fn run_within(
-    name: &[u8],
-    sheet: &[u8],
-    budget: FlowBudget,
-    limits: Limits,
-    blocks: &mut [u64],
-    sets: &mut [u64],
-    scratch: &mut [u64],
-) {
-    garble(blocks);
-    garble(sets);
-    garble(scratch);
-    let a = flow::verify_within(sheet, budget, limits, blocks, sets, scratch);
-    let answer = a.answer;
-    let given = a.limits;
-    print::answer(name, answer);
-    print::limits(given);
     print::words(blocks);
     print::words(sets);
     print::end(scratch);

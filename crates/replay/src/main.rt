@@ -2,8 +2,6 @@
 //
 // A line is `NAME WORK RETAINED RECORDS SETS SCRATCH HEX`: the budget, how many block records, words of sets and words of scratch are lent, and
 // the sheet in hexadecimal, `.` for none. The lent words hold garbage before the call. `n-built BLOCKS` has case n's sheet built here.
-// `within: NAME WORK RETAINED WORK-LIMIT STATE-LIMIT FACTS-LIMIT RECORDS SETS SCRATCH HEX` is a call of `verify_within`, with its limits behind the budget;
-// its answer has the limits as they come back, behind the budget too.
 // Lines that begin with `#` and empty lines are skipped. The answer is
 // `NAME NUMBER ID BLOCKS AWAITS WORK RETAINED | block words | set words | words of scratch that are not zero`, the words in hexadecimal; or
 // `NAME ?` where the line cannot be read or asks for more than there is, `? ?` where it has no name.
@@ -55,11 +53,6 @@ fn answer_line(line: &[u8]) {
     if line[0] == b'#' {
         return;
     }
-    let from = text::within_end(line);
-    if from > 0 {
-        answer_within(&line[from..]);
-        return;
-    }
     let n = text::name_end(line);
     if n == 0 {
         print::unread(b"?");
@@ -70,18 +63,7 @@ fn answer_line(line: &[u8]) {
         answer_built(name, line, n);
         return;
     }
-    answer_call(name, line, n, false);
-}
-
-// What follows `within: `.
-fn answer_within(line: &[u8]) {
-    let n = text::name_end(line);
-    if n == 0 {
-        print::unread(b"?");
-        return;
-    }
-    let name = &line[0..n];
-    answer_call(name, line, n, true);
+    answer_call(name, line, n);
 }
 
 // `n-built BLOCKS`: a number and nothing after it.
@@ -97,9 +79,9 @@ fn answer_built(name: &[u8], line: &[u8], from: usize) {
     built::answer(name, blocks as usize);
 }
 
-// A call: numbers and the sheet.
-fn answer_call(name: &[u8], line: &[u8], from: usize, within: bool) {
-    let Asked::Call(request, at) = text::numbers(line, from, within) else {
+// A call: five numbers and the sheet.
+fn answer_call(name: &[u8], line: &[u8], from: usize) {
+    let Asked::Call(request, at) = text::numbers(line, from) else {
         print::unread(name);
         return;
     };

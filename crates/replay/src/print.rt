@@ -2,7 +2,7 @@
 ghost use Rattle.std.specs.Prelude.{◌≤◌, length};
 
 use answers::Answer;
-use budget::{FlowBudget, Limits};
+use budget::FlowBudget;
 
 // A line that was not read.
 pub fn unread(name: &[u8]) {
@@ -30,13 +30,6 @@ fn numbers(number: u64, id: u32, blocks: usize, awaits: usize, budget: FlowBudge
     decimal(awaits as u64);
     decimal(budget.work);
     decimal(budget.retained);
-}
-
-// The limits as they come back.
-pub fn limits(l: Limits) {
-    decimal(l.work);
-    decimal(l.state);
-    decimal(l.facts);
 }
 
 fn decimal(n: u64) {

@@ -9,7 +9,7 @@ use native.Mathlib.Omega.{arith}
 use lib.ListN.{length}
 use Rattle.bitset.specs.Below.{AllBelow}
 use Rattle.operands.specs.Bytes.{numbers_at}
-use Rattle.dataflow.specs.Lists.{pick}
+use Rattle.operands.specs.Choice.{pick}
 use Rattle.operands.specs.Kinds.{is_await}
 use Rattle.format.specs.declared.refusal.Refusal.{Refusal}
 use Rattle.records.specs.declared.record.Step.TheVariants.{Next, Stop}

@@ -7,7 +7,7 @@ use native.Mathlib.Nat.{zero-add, suc-add}
 use native.Mathlib.Omega.{arith}
 use borrow.Author.Tests.{eqb-true, eqb-false}
 use lib.Dec.{eqb}
-use Rattle.dataflow.specs.Lists.{pick}
+use Rattle.operands.specs.Choice.{pick}
 use Rattle.format.specs.Heads.{end_at}
 use Rattle.records.specs.Records.{plain_slot, plain_run}
 use Rattle.records.proofs.PlainLaws.{plain, plain_end}

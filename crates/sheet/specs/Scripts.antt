@@ -1,7 +1,7 @@
 -- What the code keeps of a sheet that passes, and the answer of its check.
 use Rattle.std.specs.Prelude.{List, [], ◌∷◌, ℕ, zero, suc, ◌+◌, ◌/◌}
 use Rattle.std.proofs.Math.Option.{Option, none, some}
-use Rattle.dataflow.specs.Lists.{pick}
+use Rattle.operands.specs.Choice.{pick}
 use Rattle.operands.specs.Kinds.{is_await}
 use Rattle.format.specs.declared.refusal.Refusal.{Refusal}
 use Rattle.format.specs.Heads.{end_at, body_length}

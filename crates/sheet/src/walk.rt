@@ -1,6 +1,6 @@
 // The walk over the slot records and over the instruction records: the first bad one decides.
 ghost use Rattle.std.specs.Prelude.{◌≡◌, ◌+◌, ◌/◌, ◌≤◌};
-ghost use Rattle.dataflow.specs.Lists.{pick};
+ghost use Rattle.operands.specs.Choice.{pick};
 ghost use Rattle.sheet.specs.Stages.{refusal_in_slots, refusal_in_code, one_if, any_slots, walked_slots, walked_code};
 
 use format::refusal::Refusal;

@@ -202,7 +202,7 @@ module _ {M : Type 1} {𝓤 : Ura M} (𝓛 : Logic 𝓤) (mem : Memory → SProp
     exits p ep bs eb long-b r ws ef long-w v =
         qed 𝓛 (‵ ((An.the_row).own_val r (v ∷ [])) ∷ (‵ (flft κ₃ q₃) ⊛ ‵ ftrue) ∷ ‵ (finally u64 γ ws) ∷ ‵ (flft κ₀ q₀) ∷ ‵ (flft κ₁ q₁) ∷ ‵ (flft κ₂ q₂) ∷ ‵ (finally u64 t.name ts) ∷ ‵ (finally T.the_row x.name bs) ∷ ‵ OwnS ∷ []) ∵
         suffices ! _ (ends_at 𝓛 f.ended stayed (f.clauses 𝓛 mem run) (((κ₀, (κ₁, (κ₂, (κ₃, tt)))), (q₀, (q₁, (q₂, (q₃, tt)))), tt, a, at), tt) v r (tt, (tt, (bs, (ts, (ws, tt))))) (tt, (tt, (long-b, (long-t, (long-w ∙ long, tt)))))) $
-        says ! (blocks_verified z.now todays d x.now t.now us vs ts e h bs ws r p ep eb ef long) $
+        says ! (blocks_verified z.now d x.now t.now us vs ts e h bs ws r p ep eb ef long) $
         move ! (5 ∷ 1 ∷ []) $ join ! $ move ! (4 ∷ 0 ∷ []) $ join ! $ move ! (3 ∷ 0 ∷ []) $ join ! $ frame ! $
         -- [the answer; the last words of scratch; those of the sets buffer; the last blocks; the sheet]
         nothing ! $ move ! (2 ∷ 0 ∷ []) $ fjoin ! $ move ! (2 ∷ 0 ∷ []) $ fjoin ! $ move ! (2 ∷ 0 ∷ []) $ fjoin ! $ owned ! B.the_row (Is B.the_row) ((LL.makes B.the_type B'.the_plain) 𝓛) d _ fine $ fjoin ! $ move ! (2 ∷ 0 ∷ []) $ fjoin ! $ frame ! $ done !

@@ -1,6 +1,6 @@
 -- `flow_c::kagari_flow_load` meets its contract. Assumes nothing.
 use mathlib.Core.Path.{ap, ◌∙◌}
-use Rattle.host_answers.specs.Load.{load_answer_of}
+use Rattle.flow_c.specs.Exports.{load_answer_of}
 use borrow.Author.Rules.{rules}
 use Rattle.flow_c.proofs.kagari_flow_load.Statement.{statement}
 use Rattle.flow_c.proofs.kagari_flow_load.Tie as tie

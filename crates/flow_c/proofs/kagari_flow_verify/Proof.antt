@@ -39,7 +39,6 @@ use denote.Triple.Table.{entered, cited}
 use denote.Triple.Walked.{says, Stays, stay_none_slice, stay_none, gave_slice, walk_of, Goes-none_slice, Goes-none, Goes-gave_slice, Walks, ends_at, walked, walk_Meets}
 use denote.Exit.{yes as kept}
 use Rattle.budget.specs.declared.FlowBudget.{FlowBudget}
-use Rattle.budget.specs.Budget.{todays}
 use Rattle.budget.specs.contracts.FlowBudget as B
 use Rattle.budget.proofs.FlowBudget.TheLaws as B'
 use Rattle.block_records.specs.declared.Block.{Block}
@@ -50,26 +49,26 @@ use Rattle.answers.specs.contracts.Answer as An
 use Rattle.answers.proofs.Answer.TheLaws as An'
 use Rattle.flow_blocks.specs.BlocksVerify.{BlocksVerified}
 use Rattle.flow_blocks.proofs.Forms.{bytes, list, words, mut-word, mut-words, mut-block, mut-blocks, asks_no_more}
-use Rattle.host_answers.specs.declared.HostBudget.{HostBudget}
-use Rattle.host_answers.specs.declared.FlowAnswer.{FlowAnswer}
-use Rattle.host_answers.specs.Numbers.{budget_of, answer_of}
-use Rattle.host_answers.specs.contracts.HostBudget as D
-use Rattle.host_answers.proofs.HostBudget.TheLaws as D'
-use Rattle.host_answers.specs.contracts.FlowAnswer as G
-use Rattle.host_answers.proofs.FlowAnswer.TheLaws as G'
+use Rattle.flow_c.specs.declared.HostBudget.{HostBudget}
+use Rattle.flow_c.specs.declared.FlowAnswer.{FlowAnswer}
+use Rattle.flow_c.specs.Exports.{budget_of, answer_of}
+use Rattle.flow_c.specs.contracts.HostBudget as D
+use Rattle.flow_c.proofs.HostBudget.TheLaws as D'
+use Rattle.flow_c.specs.contracts.FlowAnswer as G
+use Rattle.flow_c.proofs.FlowAnswer.TheLaws as G'
 use Rattle.flow_c.proofs.HostLaws.{hosted}
 use Rattle.flow_blocks.specs.contracts.verify as ver
 use Rattle.flow_blocks.proofs.verify.Symbol as ver-def
 use Rattle.flow_blocks.proofs.verify.Symbol.{name as #flow-blocks·verify}
 use Rattle.flow_blocks.proofs.verify.Met as ver-thm
-use Rattle.host_answers.specs.contracts.budget_of as bud
-use Rattle.host_answers.proofs.budget_of.Symbol as bud-def
-use Rattle.host_answers.proofs.budget_of.Symbol.{name as #host-answers·budget-of}
-use Rattle.host_answers.proofs.budget_of.Met as bud-thm
-use Rattle.host_answers.specs.contracts.answer_of as ans
-use Rattle.host_answers.proofs.answer_of.Symbol as ans-def
-use Rattle.host_answers.proofs.answer_of.Symbol.{name as #host-answers·answer-of}
-use Rattle.host_answers.proofs.answer_of.Met as ans-thm
+use Rattle.flow_c.specs.contracts.budget_of as bud
+use Rattle.flow_c.proofs.budget_of.Symbol as bud-def
+use Rattle.flow_c.proofs.budget_of.Symbol.{name as #flow-c·budget-of}
+use Rattle.flow_c.proofs.budget_of.Met as bud-thm
+use Rattle.flow_c.specs.contracts.answer_of as ans
+use Rattle.flow_c.proofs.answer_of.Symbol as ans-def
+use Rattle.flow_c.proofs.answer_of.Symbol.{name as #flow-c·answer-of}
+use Rattle.flow_c.proofs.answer_of.Met as ans-thm
 use Rattle.flow_c.specs.contracts.kagari_flow_verify.Key.{name as #flow-c·kagari-flow-verify}
 use Rattle.flow_c.specs.contracts.kagari_flow_verify as f
 use Rattle.flow_c.proofs.kagari_flow_verify.Statement as stated
@@ -170,19 +169,19 @@ module _ {M : Type 1} {𝓤 : Ura M} (𝓛 : Logic 𝓤) (mem : Memory → SProp
   said-ans r g = ex_e 𝓤 _ (λ ls. snd∗ 𝓤 (sem 𝓛 (lasts ans.ended tt (r, tt) ls)) (fact 𝓤 (g ≡ answer_of (outcome_by r))))
 
   module _ (c : FlowBudget) (ec : c ≡ budget_of d) where
-    exits : (r : Answer) (bs : List Block) (ts ws : List ℕ) → BlocksVerified z.now todays c x.now bs t.now ts s.now ws r → length bs ≡ length x.now → length ts ≡ length t.now → length ws ≡ length s.now
+    exits : (r : Answer) (bs : List Block) (ts ws : List ℕ) → BlocksVerified z.now c x.now bs t.now ts s.now ws r → length bs ≡ length x.now → length ts ≡ length t.now → length ws ≡ length s.now
         → (g : FlowAnswer) → g ≡ answer_of (outcome_by r) → (v : Val)
         → ent 𝓤 (⋆ 𝓛 (‵ ((G.the_row).own_val g (v ∷ [])) ∷ Tokens ∷ ‵ (finally u64 s.name ws) ∷ ‵ (finally u64 t.name ts) ∷ ‵ (finally T.the_row x.name bs) ∷ ‵ OwnS ∷ [])) (Post v)
     exits r bs ts ws h long-b long-t long-w g eg v =
         qed 𝓛 (‵ ((G.the_row).own_val g (v ∷ [])) ∷ Tokens ∷ ‵ (finally u64 s.name ws) ∷ ‵ (finally u64 t.name ts) ∷ ‵ (finally T.the_row x.name bs) ∷ ‵ OwnS ∷ []) ∵
         suffices ! _ (ends_at 𝓛 f.ended stayed (f.clauses 𝓛 mem run) (((κ₀, (κ₁, (κ₂, (κ₃, tt)))), (q₀, (q₁, (q₂, (q₃, tt)))), tt, a, at), tt) v g (tt, (tt, (bs, (ts, (ws, tt))))) (tt, (tt, (long-b, (long-t, (long-w, tt)))))) $
-        says ! (hosted z.now todays c (budget_of d) x.now bs t.now ts s.now ws r g ec h eg) $
+        says ! (hosted z.now c (budget_of d) x.now bs t.now ts s.now ws r g ec h eg) $
         move ! (1 ∷ []) $ frame ! $
         -- [the answer; the last words of scratch; those of the sets buffer; the last blocks; the sheet]
         nothing ! $ move ! (2 ∷ 0 ∷ []) $ fjoin ! $ move ! (2 ∷ 0 ∷ []) $ fjoin ! $ move ! (2 ∷ 0 ∷ []) $ fjoin ! $ owned ! D.the_row (Is D.the_row) ((LL.makes D.the_type D'.the_plain) 𝓛) d _ fine $ fjoin ! $ move ! (2 ∷ 0 ∷ []) $ fjoin ! $ frame ! $ done !
 
-  module _ (𝓣 : Tables 𝓤 H) (fm : FmC 𝓤 H 𝓛.laws 𝓣.C) (known-bud : Triple 𝓤 (𝓣.C #host-answers·budget-of) (Bud 𝓛 mem run)) (known-ver : Triple 𝓤 (𝓣.C #flow-blocks·verify) (Ver 𝓛 mem run))
-      (known-ans : Triple 𝓤 (𝓣.C #host-answers·answer-of) (Ans 𝓛 mem run)) where
+  module _ (𝓣 : Tables 𝓤 H) (fm : FmC 𝓤 H 𝓛.laws 𝓣.C) (known-bud : Triple 𝓤 (𝓣.C #flow-c·budget-of) (Bud 𝓛 mem run)) (known-ver : Triple 𝓤 (𝓣.C #flow-blocks·verify) (Ver 𝓛 mem run))
+      (known-ans : Triple 𝓤 (𝓣.C #flow-c·answer-of) (Ans 𝓛 mem run)) where
     module _ (l₀ l₁ l₂ l₃ l₄ l₅ l₆ l₇ l₈ l₉ l₁₀ l₁₁ l₁₂ l₁₃ : ℕ) where
       abbrev En : Env 𝓤 H
       En = (G'.mir, l₀) ∷ (bytes, l₁) ∷ (D'.mir, l₂) ∷ (list, l₃) ∷ (words 2, l₄) ∷ (words 3, l₅) ∷ (B'.mir, l₆) ∷ (An'.mir, l₇) ∷ (mut-block, l₈) ∷ (mut-blocks, l₉) ∷ (mut-word, l₁₀) ∷ (mut-words, l₁₁) ∷ (mut-word, l₁₂) ∷ (mut-words, l₁₃) ∷ []
@@ -197,7 +196,7 @@ module _ {M : Type 1} {𝓤 : Ura M} (𝓛 : Logic 𝓤) (mem : Memory → SProp
 
       module _ (c : FlowBudget) (ec : c ≡ budget_of d) (u : Val) (isc : Is B.the_row c (u ∷ [])) where
         -- the call of `answer_of`
-        ended : (r : Answer) (bs : List Block) (ts ws : List ℕ) → BlocksVerified z.now todays c x.now bs t.now ts s.now ws r → length bs ≡ length x.now → length ts ≡ length t.now → length ws ≡ length s.now
+        ended : (r : Answer) (bs : List Block) (ts ws : List ℕ) → BlocksVerified z.now c x.now bs t.now ts s.now ws r → length bs ≡ length x.now → length ts ≡ length t.now → length ws ≡ length s.now
             → (u' : Val) → Is An.the_row r (u' ∷ [])
             → Sq 𝓛 (Tokens ∷ ‵ (finally u64 s.name ws) ∷ ‵ (finally u64 t.name ts) ∷ ‵ (finally T.the_row x.name bs) ∷ ‵ OwnS ∷ Locals (‵ (fat full_share An'.mir l₇ 0 u')) (‵ (fat full_share B'.mir l₆ 0 u))) (runs 𝓣.C 𝓣.Λ En body.t-9 (at_ret En Post))
         ended r bs ts ws h long-b long-t long-w u' isr =
@@ -229,8 +228,8 @@ module _ {M : Type 1} {𝓤 : Ura M} (𝓛 : Logic 𝓤) (mem : Memory → SProp
             calls_at ! fm (Ver 𝓛 mem run) known-ver (to-ver c u) (and_then ! (load ! (from ! (stop !)) (look ! 26 refl)) (and_then ! (load ! (from ! (stop !)) (look ! 16 refl)) (and_then ! (load ! (from ! (stop !)) (look ! 10 refl)) (and_then ! (load ! (from ! (stop !)) (look ! 6 refl)) (and_then ! (load ! (from ! (stop !)) (look ! 2 refl)) (no_more !)))))) (λ u'.
             use1 𝓛 (later (some (λ (r : Answer). (Tokens ⊛ ‵ ((An.the_row).own_val r (u' ∷ []))) ⊛ raw (ensured 𝓛 ver.ended (ver.clauses 𝓛 mem run) (κ₀, (κ₁, (κ₂, (κ₃, tt)))) (z, (c, (x, (t, (s, tt))))) tt r)))) (id⊢ 𝓤 _) $ await ! tt $ pick ! (λ r.
             split ! $ move ! (1 ∷ []) $ use1 𝓛 (some (λ (ls : Unit {0} × (Unit {0} × (List Block × (List ℕ × (List ℕ × Unit {0}))))). ‵ (lasts ver.ended (κ₀, (κ₁, (κ₂, (κ₃, tt)))) (z, (c, (x, (t, (s, tt))))) ls)
-            ⊛ raw (fact 𝓤 (BlocksVerified z.now todays c x.now ls.1.1.0 t.now ls.1.1.1.0 s.now ls.1.1.1.1.0 r)))) (id⊢ 𝓤 _) $ pick ! (λ ls.
-            split ! $ move ! (1 ∷ []) $ heard ! (BlocksVerified z.now todays c x.now ls.1.1.0 t.now ls.1.1.1.0 s.now ls.1.1.1.1.0 r) (λ h. fsplit ! $ drop ! $ fsplit ! $ drop ! $
+            ⊛ raw (fact 𝓤 (BlocksVerified z.now c x.now ls.1.1.0 t.now ls.1.1.1.0 s.now ls.1.1.1.1.0 r)))) (id⊢ 𝓤 _) $ pick ! (λ ls.
+            split ! $ move ! (1 ∷ []) $ heard ! (BlocksVerified z.now c x.now ls.1.1.0 t.now ls.1.1.1.0 s.now ls.1.1.1.1.0 r) (λ h. fsplit ! $ drop ! $ fsplit ! $ drop ! $
             fsplit ! $ fsplit ! $ move ! (1 ∷ []) $ feq_l ! (λ long-b. move ! (1 ∷ []) $ fsplit ! $ fsplit ! $ move ! (1 ∷ []) $ feq_l ! (λ long-t. move ! (1 ∷ []) $ fsplit ! $ fsplit ! $ move ! (1 ∷ []) $ feq_l ! (λ long-w.
             -- [the last words of scratch; …; the last sets; the last blocks; the tokens and the result; the sheet; _13; …]
             move ! (4 ∷ []) $ split ! $ move ! (1 ∷ []) $ peeks ! An.the_row (Is An.the_row) (shows 𝓛 An.the_row) r (u' ∷ []) (λ isr.
@@ -260,8 +259,8 @@ module _ {M : Type 1} {𝓤 : Ura M} (𝓛 : Logic 𝓤) (mem : Memory → SProp
         -- [scratch; …; sets; the block list; the sheet; _13; …; the tokens]
         keep ! (33 ∷ 4 ∷ 3 ∷ 2 ∷ 0 ∷ 5 ∷ 6 ∷ 7 ∷ 8 ∷ 9 ∷ 10 ∷ 11 ∷ 12 ∷ 13 ∷ 14 ∷ 15 ∷ 16 ∷ 17 ∷ 18 ∷ 19 ∷ 20 ∷ 21 ∷ 22 ∷ 23 ∷ 24 ∷ 25 ∷ 26 ∷ 27 ∷ 28 ∷ 29 ∷ 30 ∷ 31 ∷ 32 ∷ []) $ begun l₀ l₁ l₂ l₃ l₄ l₅ l₆ l₇ l₈ l₉ l₁₀ l₁₁ l₁₂ l₁₃))))))))))))))
 
-module _ {M : Type 1} {𝓤 : Ura M} (𝓛 : Logic 𝓤) (mem : Memory → SProp 𝓤) (run : Routine → Fun 𝓤) (𝓣 : Tables 𝓤 𝓛.H) (known-bud : Triple 𝓤 (𝓣.C #host-answers·budget-of) (Bud 𝓛 mem run))
-    (known-ver : Triple 𝓤 (𝓣.C #flow-blocks·verify) (Ver 𝓛 mem run)) (known-ans : Triple 𝓤 (𝓣.C #host-answers·answer-of) (Ans 𝓛 mem run)) where
+module _ {M : Type 1} {𝓤 : Ura M} (𝓛 : Logic 𝓤) (mem : Memory → SProp 𝓤) (run : Routine → Fun 𝓤) (𝓣 : Tables 𝓤 𝓛.H) (known-bud : Triple 𝓤 (𝓣.C #flow-c·budget-of) (Bud 𝓛 mem run))
+    (known-ver : Triple 𝓤 (𝓣.C #flow-blocks·verify) (Ver 𝓛 mem run)) (known-ans : Triple 𝓤 (𝓣.C #flow-c·answer-of) (Ans 𝓛 mem run)) where
   open 𝓛 use {H}
 
   export-walks : FmC 𝓤 H 𝓛.laws 𝓣.C → Walks 𝓛 f.ended stayed (WpFn 𝓤 H 𝓣.C 𝓣.Λ code.function) (f.clauses 𝓛 mem run)
@@ -283,6 +282,6 @@ kagari-flow-verify-spec 𝓤 𝓛 𝓜 𝓡 =
     entered 𝓤 𝓛.H (triple_of 𝓛 f.signature (f.spec 𝓛 𝓜.mem 𝓡.run))
     (tables 𝓤 𝓛.H 𝓜 𝓡 code.env).C (tables 𝓤 𝓛.H 𝓜 𝓡 code.env).Λ #flow-c·kagari-flow-verify code.function (code.unfolded 𝓤 𝓛.H 𝓜 𝓡)
     (export-meets 𝓛 𝓜.mem 𝓡.run (tables_of 𝓤 𝓛.H 𝓜 (tables 𝓤 𝓛.H 𝓜 𝓡 code.env))
-    (cited 𝓤 𝓛.H (Bud 𝓛 𝓜.mem 𝓡.run) 𝓜 𝓡 code.env #host-answers·budget-of bud-def.routine code.calls-host-answers::budget-of (bud-thm.met 𝓤 𝓛 𝓜 𝓡))
+    (cited 𝓤 𝓛.H (Bud 𝓛 𝓜.mem 𝓡.run) 𝓜 𝓡 code.env #flow-c·budget-of bud-def.routine code.calls-flow-c::budget-of (bud-thm.met 𝓤 𝓛 𝓜 𝓡))
     (cited 𝓤 𝓛.H (Ver 𝓛 𝓜.mem 𝓡.run) 𝓜 𝓡 code.env #flow-blocks·verify ver-def.routine code.calls-flow-blocks::verify (ver-thm.met 𝓤 𝓛 𝓜 𝓡))
-    (cited 𝓤 𝓛.H (Ans 𝓛 𝓜.mem 𝓡.run) 𝓜 𝓡 code.env #host-answers·answer-of ans-def.routine code.calls-host-answers::answer-of (ans-thm.met 𝓤 𝓛 𝓜 𝓡)))
+    (cited 𝓤 𝓛.H (Ans 𝓛 𝓜.mem 𝓡.run) 𝓜 𝓡 code.env #flow-c·answer-of ans-def.routine code.calls-flow-c::answer-of (ans-thm.met 𝓤 𝓛 𝓜 𝓡)))

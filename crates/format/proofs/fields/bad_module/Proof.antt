@@ -8,7 +8,7 @@ use lib.Dec.{leb}
 use borrow.Author.Rules.{rules}
 use borrow.Author.Tests.{eq-eqb, ne_eqb}
 use Rattle.format.specs.Fields.{bad_module}
-use Rattle.dataflow.specs.Lists.{pick}
+use Rattle.operands.specs.Choice.{pick}
 use Rattle.operands.specs.Slots.{module_slot_in, module_slot_of}
 use Rattle.operands.specs.declared.slots.AsModuleSlot.{AsModuleSlot}
 use Rattle.operands.specs.declared.slots.AsModuleSlot.TheVariants.{Is, TooLarge}

@@ -103,8 +103,8 @@ loop-again c =
       omega (arith, c.before.known-told.given),
       run_part (λ x. slot_fault s x) s a.slots a.first l.at l.i l.invariant.1 n.result (omega (arith, n.ensures)) g.0.0
           w.no_fault w.is_end,
-      worded_more s a.slots a.first l.at l.i l.words l.invariant.2 n.result p.result g.0.0 c.words_with.result
-          (omega arith) n.ensures w.is_end p.ensures c.words_with.ensures,
+      worded_more s a.slots a.first l.at l.i l.words l.invariant.2 n.result p.result g.0.0 c.words-with.result
+          (omega arith) n.ensures w.is_end p.ensures c.words-with.ensures,
     )
 
 returns-2 : tie.Need-returns-2 invariant-loop decreases-loop

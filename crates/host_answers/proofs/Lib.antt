@@ -1,2 +1,0 @@
--- Laws of answers in numbers.
-pub mod NumberLaws

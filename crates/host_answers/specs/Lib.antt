@@ -1,4 +1,0 @@
--- Budgets and answers as hosts see them.
-pub mod Numbers
-pub mod Within
-pub mod Load
