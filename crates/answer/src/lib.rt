@@ -1,1 +1,3 @@
 // Definitions and laws only: sets as words.
+#![tactic(auto)]
+

@@ -1,4 +1,6 @@
 // What every form of the call shares: its answer, and the sheet examined as a call does that is handed neither limits nor an added set.
+#![tactic(auto)]
+
 ghost use Rattle.std.specs.Prelude.{◌≡◌};
 ghost use Rattle.budget.specs.Budget.{todays};
 ghost use Rattle.sheet.specs.Decode.{parts_of};
@@ -12,7 +14,7 @@ use format::refusal::Refusal;
 use sizes::Layout;
 
 // Accepted with the function's id, how many blocks there are, how many awaits are reached, and the budget; or refused with the id and the budget.
-#[derive(Drop)]
+#[derive(Clone, Copy)]
 pub enum Answer {
     Accepted(u32, usize, usize, FlowBudget),
     Refused(Refusal, u32, FlowBudget),

@@ -1,4 +1,6 @@
 // The awaits of one block, over the words of both buffers: what `check_points` of flow.rs does there from the back.
+#![tactic(auto)]
+
 pub mod slots;
 
 ghost use Rattle.std.specs.Prelude.{◌≡◌, true, ◌+◌, ◌≤◌, ◌<◌, length};
@@ -20,7 +22,7 @@ use sheet::script::Script;
 use sizes::Layout;
 
 // It passed, with the entry that the next await before it is put before; or why it is refused.
-#[derive(Drop)]
+#[derive(Clone, Copy)]
 pub enum Points {
     Passed(usize, FlowBudget),
     Refused(Refusal, FlowBudget),

@@ -2,6 +2,8 @@
 //
 // Slot i of a set is bit i % 64 of its word i / 64. A row is w words of a slice from a base on; each function takes the whole slice and
 // the base, since two rows of one slice cannot be lent at once.
+#![tactic(auto)]
+
 ghost use Rattle.std.specs.Prelude.{◌≡◌, ◌+◌, ◌≤◌, ◌<◌, ◌/◌, length, drop, replicate};
 ghost use Rattle.bitset.specs.Sets.{member};
 ghost use Rattle.bitset.specs.Operations.{common, within, meet, join, difference, same};

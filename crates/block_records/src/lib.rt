@@ -1,4 +1,6 @@
 // The block list for hosts: a lent slice of block structs, filled from the words of scratch.
+#![tactic(auto)]
+
 ghost use Rattle.std.specs.Prelude.{◌≡◌, ◌<◌, ◌^◌, ◌%◌, length};
 ghost use Rattle.dataflow.specs.Lists.{tabulate};
 ghost use Rattle.memory.specs.Cells.{word};
@@ -11,7 +13,7 @@ use sizes::Layout;
 
 // A block: where it begins and ends, whether a path reaches it (0 or 1), how many successors it has, and which blocks they are, unused ones 0.
 #[repr(C)]
-#[derive(Drop)]
+#[derive(Clone, Copy)]
 pub struct Block {
     pub start: u32,
     pub end: u32,

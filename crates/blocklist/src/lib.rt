@@ -1,4 +1,6 @@
 // The block list of a script, from the words of scratch.
+#![tactic(auto)]
+
 ghost use Rattle.std.specs.Prelude.{◌≡◌, ◌<◌, length, get_or};
 ghost use Rattle.memory.specs.Scratch.{scratch, Room};
 ghost use Rattle.blocklist.specs.List.{record_in, list_word, list_words};

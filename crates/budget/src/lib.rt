@@ -1,17 +1,19 @@
 // The budget of a run: `FlowBudget`, `charge` and `state_bytes` of the source. Limits travel beside it; a call that is handed none takes today's.
+#![tactic(auto)]
+
 ghost use Rattle.std.specs.Prelude.{◌≡◌, [], ◌∷◌, ◌≤◌, min};
 ghost use Rattle.dataflow.specs.Charges.{saturating_sum};
 ghost use Rattle.budget.specs.Budget.{todays, counted, budget_of, charged, retained, state_bytes, facts_bytes};
 
 // Work charged and bytes of await facts retained so far.
-#[derive(Drop)]
+#[derive(Clone, Copy)]
 pub struct FlowBudget {
     pub work: u64,
     pub retained: u64,
 }
 
 // What work, state and retained facts may not exceed.
-#[derive(Drop)]
+#[derive(Clone, Copy)]
 pub struct Limits {
     pub work: u64,
     pub state: u64,
@@ -19,7 +21,7 @@ pub struct Limits {
 }
 
 // The budget to go on with, or the one that crossed the limit.
-#[derive(Drop)]
+#[derive(Clone, Copy)]
 pub enum Charged {
     Ok(FlowBudget),
     Over(FlowBudget),

@@ -1,4 +1,6 @@
 // `check_points` of flow.rs over the words of both buffers: the reachable blocks by start, at each the reads, then the awaits.
+#![tactic(auto)]
+
 ghost use Rattle.std.specs.Prelude.{◌≡◌, true, length};
 ghost use Rattle.dataflow.specs.Results.{reachable};
 ghost use Rattle.memory.specs.Scratch.{scratch, Room};

@@ -38,7 +38,7 @@ module _ (code : List Instruction) (parameter : ℕ → Bool) where
 
   read_found : (f : ℕ → Bool) (l : List ℕ) → unfilled_read code parameter f l ≡ true → ReadOf f l
   read_found f [] e = absurd (false≢true e)
-  read_found f (i ∷ l) e = go (or_yes _ _ e) (λ e'. read_found _ l e')
+  read_found f (i ∷ l) e = go (or_yes _ _ e) (λ e'. read_found (λ s. init_transfer p i s (f s)) l e')
     where
       here : (s : ℕ) × Memᴰ s (instruction_at code i).inputs × (not (f s) ≡ true) → ReadOf f (i ∷ l)
       here z = ([], i, l, z.0, refl, mem-elem z.0 (instruction_at code i).inputs z.1, not_yes (f z.0) z.2)

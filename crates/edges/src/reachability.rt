@@ -12,7 +12,7 @@ use memory::layout;
 use sizes::Layout;
 
 // How high the stack is and the budget to go on with, or the one that crossed the limit.
-#[derive(Drop)]
+#[derive(Clone, Copy)]
 pub enum Pushed {
     Ok(usize, FlowBudget),
     Over(FlowBudget),

@@ -1,4 +1,6 @@
 // A sheet examined: the checks of the sheet, the judging of its script, and the sets buffer as it is left.
+#![tactic(auto)]
+
 pub mod clear;
 
 ghost use Rattle.std.specs.Prelude.{◌≡◌};
@@ -16,7 +18,7 @@ use sheet::script::{Checked, Script};
 use sizes::Layout;
 
 // Accepted with the function's id, the layout of scratch, how many awaits are reached, and the budget; or refused with the id and the budget.
-#[derive(Drop)]
+#[derive(Clone, Copy)]
 pub enum Examined {
     Accepted(u32, Layout, usize, FlowBudget),
     Refused(Refusal, u32, FlowBudget),

@@ -1,4 +1,6 @@
 // The call that checks a sheet: `verify` of flow.rs, with the sheet checks before it, on lent words.
+#![tactic(auto)]
+
 ghost use Rattle.flow.specs.Verify.{WordsVerified};
 
 use answers::Answer;

@@ -1,4 +1,6 @@
 // The call that checks a sheet, with a lent slice of block structs.
+#![tactic(auto)]
+
 ghost use Rattle.std.specs.Prelude.{◌≡◌, length, replicate};
 ghost use Rattle.answers.specs.Answers.{answer_in};
 ghost use Rattle.flow_blocks.specs.BlocksVerify.{BlocksVerified};

@@ -1,4 +1,6 @@
 // The call for hosts in C and Rust.
+#![tactic(auto)]
+
 ghost use Rattle.std.specs.Prelude.{◌≡◌};
 ghost use Rattle.answers.specs.Answers.{outcome_by};
 ghost use Rattle.flow_c.specs.Exports.{budget_of, answer_of, HostVerified, load_answer_of, host_load};
@@ -10,7 +12,7 @@ use load::Loaded;
 
 // Work charged and bytes retained so far.
 #[repr(C)]
-#[derive(Drop)]
+#[derive(Clone, Copy)]
 pub struct HostBudget {
     pub work: u64,
     pub retained: u64,
@@ -18,7 +20,7 @@ pub struct HostBudget {
 
 // Number 0: accepted, with how many blocks there are and how many awaits are reached. Else the number of the refusal, and zeros for these.
 #[repr(C)]
-#[derive(Drop)]
+#[derive(Clone, Copy)]
 pub struct FlowAnswer {
     pub number: u32,
     pub function: u32,
@@ -78,7 +80,7 @@ fn answer_of(a: Answer) -> FlowAnswer
 
 // Number 0 and the load. Else the number of the refusal, and load 0.
 #[repr(C)]
-#[derive(Drop)]
+#[derive(Clone, Copy)]
 pub struct LoadAnswer {
     pub number: u32,
     pub function: u32,

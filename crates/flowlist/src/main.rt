@@ -1,5 +1,7 @@
 // flowlist: a sheet from standard input, its listing to standard output. Memory is lent as document 01 says: 4,096 words of scratch, 1,024 of sets,
 // 256 block records; the budget is zero.
+#![tactic(auto)]
+
 use answers::Answer;
 use budget::FlowBudget;
 use load::Loaded;

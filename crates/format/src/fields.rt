@@ -11,7 +11,7 @@ use operands::slots::{AsModuleSlot, ModuleSlot};
 use operands::{instruction, pattern};
 
 // What is wrong with the fields of an instruction.
-#[derive(Drop)]
+#[derive(Clone, Copy)]
 pub struct Faults {
     // a module slot above 65,535
     pub modules: bool,

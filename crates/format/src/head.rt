@@ -4,7 +4,7 @@ ghost use Rattle.format.specs.Answers.{head_at};
 
 use crate::bytes;
 
-#[derive(Drop)]
+#[derive(Clone, Copy)]
 pub enum Head {
     // The kind, where the body begins, and where the record ends.
     Record(usize, usize, usize),

@@ -17,7 +17,7 @@ pub const TUPLE: u8 = 4;
 // How many tuples deep a type may be.
 pub const DEPTH: usize = 16;
 
-#[derive(Drop)]
+#[derive(Clone, Copy)]
 pub enum Typed {
     // A type: where it ends, and whether `inline_host` of flow.rs accepts it.
     Got(usize, bool),

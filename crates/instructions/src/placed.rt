@@ -6,7 +6,7 @@ use format::bytes;
 use operands::instruction::Instruction;
 use operands::pattern::Pattern;
 
-#[derive(Drop)]
+#[derive(Clone, Copy)]
 pub struct Placed {
     pub instruction: Instruction,
     // where the next record begins

@@ -44,7 +44,7 @@ fn bit_if(slot: usize, test: bool) -> u64
 }
 
 // A word of a set, and where the record behind its slots begins.
-#[derive(Drop)]
+#[derive(Clone, Copy)]
 struct HostWord {
     bits: u64,
     next: usize,

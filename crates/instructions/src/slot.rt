@@ -8,7 +8,7 @@ use format::{bytes, types};
 // The physical byte of a host handle.
 pub const HOST_HANDLE: u8 = 10;
 
-#[derive(Drop)]
+#[derive(Clone, Copy)]
 pub struct SlotRecord {
     pub physical: u8,
     // whether `inline_host` of flow.rs accepts the type
@@ -18,7 +18,7 @@ pub struct SlotRecord {
 }
 
 // What the row of host slots needs of a record.
-#[derive(Drop)]
+#[derive(Clone, Copy)]
 pub struct HostSlot {
     pub host: bool,
     // where the next record begins

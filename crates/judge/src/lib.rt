@@ -1,4 +1,6 @@
 // `verify` of flow.rs on a sheet that passed the checks, stage by stage.
+#![tactic(auto)]
+
 ghost use Rattle.std.specs.Prelude.{◌≡◌, ◌*◌, ◌-◌, ◌^◌, ◌≤◌, ◌<◌, length};
 ghost use Rattle.memory.specs.Cells.{store_cell};
 ghost use Rattle.memory.specs.Names.{hosts_row};
@@ -20,7 +22,7 @@ use sheet::script::Script;
 use sizes::{Layout, Staged};
 
 // Accepted with the layout, how many awaits are reached, and the budget; or refused with the budget as charged.
-#[derive(Drop)]
+#[derive(Clone, Copy)]
 pub enum Judged {
     Accepted(Layout, usize, FlowBudget),
     Refused(Refusal, FlowBudget),

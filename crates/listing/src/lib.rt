@@ -1,4 +1,6 @@
 // The listing of an answer, line by line, into lent bytes. Each line's function answers how long the line is; it stands in the buffer if it fits.
+#![tactic(auto)]
+
 ghost use Rattle.std.specs.Prelude.{◌≡◌, [], ◌∷◌, ◌+◌, ◌/◌, ◌^◌, ◌≤◌, ◌<◌, length, drop, get_or};
 ghost use Rattle.bitset.specs.Sets.{member};
 ghost use Rattle.dataflow.specs.Lists.{keep};

@@ -1,4 +1,6 @@
 // The load of an answer: the slots of its await sets that hold something, summed over all of them. All memory is only read.
+#![tactic(auto)]
+
 pub mod weights;
 
 ghost use Rattle.std.specs.Prelude.{◌≡◌, ◌+◌, ◌*◌, ◌/◌, ◌≤◌, ◌<◌, leb, length};
@@ -10,7 +12,7 @@ use format::refusal::Refusal;
 use sheet::script::{Checked, Script};
 
 // The function's id and the load; or the refusal, with the function's id.
-#[derive(Drop)]
+#[derive(Clone, Copy)]
 pub enum Loaded {
     Is(u32, u64),
     Refused(Refusal, u32),

@@ -8,7 +8,7 @@ ghost use Rattle.load.specs.Counting.{weights_at};
 pub const UNIT: u8 = 1;
 
 // A word of weights, and where the record behind its slots begins.
-#[derive(Drop)]
+#[derive(Clone, Copy)]
 pub struct Weights {
     pub bits: u64,
     pub next: usize,

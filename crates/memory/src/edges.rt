@@ -9,7 +9,7 @@ use crate::{layout, scratch};
 use sizes::Layout;
 
 // The edges that leave a block, or those that lead to it.
-#[derive(Drop)]
+#[derive(Clone, Copy)]
 pub enum Side {
     Successors,
     Predecessors,

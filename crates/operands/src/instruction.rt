@@ -15,7 +15,7 @@ use crate::slots::{JumpTarget, Slot};
 pub const ABSENT: u32 = 4294967295;
 
 // An instruction of a sheet: its kind and pattern, where its fields begin, and how many there are.
-#[derive(Drop)]
+#[derive(Clone, Copy)]
 pub struct Instruction {
     pub pattern: Pattern,
     pub body: usize,
@@ -23,21 +23,21 @@ pub struct Instruction {
 }
 
 // The number of an operand that may be absent.
-#[derive(Drop)]
+#[derive(Clone, Copy)]
 pub enum Value {
     Is(u32),
     Absent,
 }
 
 // A slot that an instruction reads or writes, or none.
-#[derive(Drop)]
+#[derive(Clone, Copy)]
 pub enum SlotOperand {
     Is(Slot),
     Absent,
 }
 
 // An instruction that an instruction may go to, or none.
-#[derive(Drop)]
+#[derive(Clone, Copy)]
 pub enum TargetOperand {
     Is(JumpTarget),
     Absent,

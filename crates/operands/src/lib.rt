@@ -1,4 +1,6 @@
 // Which slots an instruction reads and writes: operands.rs of the source, by one table of field patterns.
+#![tactic(auto)]
+
 pub mod instruction;
 pub mod kinds;
 pub mod pattern;

@@ -21,7 +21,7 @@ pub const L: u16 = 7;
 
 // A kind with its pattern: five octal digits, how many single fields there are and then the roles, field 0 first. From field 3 on the role
 // stays the same: only L goes on so far.
-#[derive(Drop)]
+#[derive(Clone, Copy)]
 pub struct Pattern {
     pub kind: usize,
     pub word: usize,

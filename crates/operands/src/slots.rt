@@ -3,19 +3,19 @@ ghost use Rattle.std.specs.Prelude.{◌≡◌};
 ghost use Rattle.operands.specs.Slots.{module_slot_in, module_slot_of};
 
 // A slot of the function.
-#[derive(Drop)]
+#[derive(Clone, Copy)]
 pub struct Slot(pub u32);
 
 // A slot of the module's store (kinds 6 and 7). It never counts a slot of the function.
-#[derive(Drop)]
+#[derive(Clone, Copy)]
 pub struct ModuleSlot(pub u16);
 
 // An instruction that a branch or a jump may go to.
-#[derive(Drop)]
+#[derive(Clone, Copy)]
 pub struct JumpTarget(pub u32);
 
 // A number as a module slot, which is at most 65,535.
-#[derive(Drop)]
+#[derive(Clone, Copy)]
 pub enum AsModuleSlot {
     Is(ModuleSlot),
     TooLarge,

@@ -1,5 +1,7 @@
 // The operand functions for hosts in C and Rust. An instruction is a kind and the bytes of its fields; each answer is a number, and
 // 18,446,744,073,709,551,615 where there is none: no such kind, bytes that do not fit its pattern, or no such operand.
+#![tactic(auto)]
+
 ghost use Rattle.std.specs.Prelude.{◌≡◌, ◌≤◌};
 ghost use Rattle.operands.specs.Instructions.{slot_in, target_in};
 ghost use Rattle.operands_c.specs.Exports.{parse, number_of, input_count, input, output, target_count, target};
@@ -10,7 +12,7 @@ use operands::pattern::Pattern;
 const NOTHING: u64 = 18446744073709551615;
 
 // An instruction that can be read, or none.
-#[derive(Drop)]
+#[derive(Clone, Copy)]
 pub enum Parsed {
     Is(Instruction),
     Bad,

@@ -1,4 +1,6 @@
 // `postorder` of solver.rs: a depth-first search from block 0, one charge a turn, over the words of scratch.
+#![tactic(auto)]
+
 ghost use Rattle.std.specs.Prelude.{◌≡◌, ◌<◌, ◌≤◌, length, replicate};
 ghost use Rattle.memory.specs.Cells.{cell, store_cell};
 ghost use Rattle.memory.specs.Frame.{Only, NoRow};
@@ -13,14 +15,14 @@ use memory::layout;
 use sizes::Layout;
 
 // How many blocks are in the order and the budget to go on with, or the one that crossed the limit.
-#[derive(Drop)]
+#[derive(Clone, Copy)]
 pub enum Ordered {
     Ok(usize, FlowBudget),
     Over(FlowBudget),
 }
 
 // How many frames are on the stack, and how many blocks are finished.
-#[derive(Drop)]
+#[derive(Clone, Copy)]
 pub struct Walk {
     pub top: usize,
     pub len: usize,

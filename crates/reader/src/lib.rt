@@ -1,4 +1,6 @@
 // A reader that holds a sheet and a position, above the checks of one record.
+#![tactic(auto)]
+
 ghost use Rattle.std.specs.Prelude.{◌≡◌};
 ghost use Rattle.records.specs.Records.{plain_run};
 ghost use Rattle.reader.specs.Steps.{due_step};
@@ -7,7 +9,7 @@ use records::record;
 use records::record::Step;
 
 // A sheet and a position in it.
-#[derive(Drop)]
+#[derive(Clone, Copy)]
 pub struct Reader<'a> {
     pub sheet: &'a [u8],
     pub at: usize,

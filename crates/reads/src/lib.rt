@@ -1,4 +1,6 @@
 // The reads of one block, over the words of both buffers: what `check_points` of flow.rs does there from the front.
+#![tactic(auto)]
+
 ghost use Rattle.std.specs.Prelude.{◌≡◌, not, ◌*◌, ◌≤◌, ◌<◌, length, get_or};
 ghost use Rattle.bitset.specs.Sets.{member};
 ghost use Rattle.bitset.specs.Below.{AllBelow};
@@ -19,7 +21,7 @@ use sheet::script::Script;
 use sizes::Layout;
 
 // All reads are filled, with how many awaits there are; or one is not; or a charge crossed the limit.
-#[derive(Drop)]
+#[derive(Clone, Copy)]
 pub enum Reads {
     Filled(usize, FlowBudget),
     Unfilled(FlowBudget),

@@ -21,7 +21,7 @@ pub const SLOT: usize = 258;
 // Stands for the kinds 1 to 41 where an instruction is due.
 pub const INSTRUCTION: usize = 1;
 
-#[derive(Drop)]
+#[derive(Clone, Copy)]
 pub enum Step {
     // A record that passed: where the next one begins, and this one's kind.
     Next(usize, usize),

@@ -1,4 +1,6 @@
 // Whether a number stands twice in a list of numbers of a sheet: 17, parameter twice.
+#![tactic(auto)]
+
 ghost use Rattle.std.specs.Prelude.{◌≡◌, false, ◌+◌, ◌*◌, ◌≤◌, length};
 ghost use Rattle.bitset.specs.Below.{AllBelow};
 ghost use Rattle.operands.specs.Bytes.{numbers_at};

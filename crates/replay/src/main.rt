@@ -5,6 +5,8 @@
 // Lines that begin with `#` and empty lines are skipped. The answer is
 // `NAME NUMBER ID BLOCKS AWAITS WORK RETAINED | block words | set words | words of scratch that are not zero`, the words in hexadecimal; or
 // `NAME ?` where the line cannot be read or asks for more than there is, `? ?` where it has no name.
+#![tactic(auto)]
+
 mod built;
 mod call;
 mod print;

@@ -5,14 +5,14 @@ ghost use Rattle.std.specs.Prelude.{◌≡◌, ◌+◌, ◌≤◌, length};
 const UNREAD: usize = 18446744073709551615;
 
 // A number and where it ends.
-#[derive(Drop)]
+#[derive(Clone, Copy)]
 pub enum Parsed {
     Number(u64, usize),
     Nothing,
 }
 
 // What a line asks for beside its sheet.
-#[derive(Drop)]
+#[derive(Clone, Copy)]
 pub struct Request {
     pub work: u64,
     pub retained: u64,
@@ -22,7 +22,7 @@ pub struct Request {
 }
 
 // A request and where its numbers end.
-#[derive(Drop)]
+#[derive(Clone, Copy)]
 pub enum Asked {
     Call(Request, usize),
     Unread,

@@ -1,4 +1,6 @@
 // The first half of `graph` in flow.rs: the blocks are counted, then comes the state limit (11), then what the lent buffers are short of (10).
+#![tactic(auto)]
+
 ghost use Rattle.std.specs.Prelude.{◌≡◌, ◌*◌, ◌≤◌, length, true};
 ghost use Rattle.memory.specs.Cells.{cell};
 ghost use Rattle.memory.specs.Names.{block_of_cell};

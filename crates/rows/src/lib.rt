@@ -1,4 +1,6 @@
 // Whole rows of scratch and of the sets buffer.
+#![tactic(auto)]
+
 ghost use Rattle.std.specs.Prelude.{◌≡◌, ◌∷◌, ◌+◌, length, replicate};
 ghost use Rattle.bitset.specs.Operations.{meet, join, difference, same, common, within};
 ghost use Rattle.memory.specs.Cells.{cell, store_cell};

@@ -1,1 +1,3 @@
 // A decoded sheet as a program: definitions and laws only.
+#![tactic(auto)]
+

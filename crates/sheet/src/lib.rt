@@ -1,4 +1,6 @@
 // The sheet checks, 1 to 9 and 17, stage by stage, each ending in a call of the next.
+#![tactic(auto)]
+
 pub mod script;
 pub mod walk;
 

@@ -2,7 +2,7 @@
 use format::refusal::Refusal;
 
 // A sheet that passed.
-#[derive(Drop)]
+#[derive(Clone, Copy)]
 pub struct Script {
     // the function's id, how many slots it has, and how many instructions
     pub id: u32,
@@ -20,7 +20,7 @@ pub struct Script {
     pub awaits: usize,
 }
 
-#[derive(Drop)]
+#[derive(Clone, Copy)]
 pub enum Checked {
     Passed(Script),
     // The refusal, with the function's id.

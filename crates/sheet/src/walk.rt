@@ -9,7 +9,7 @@ use operands::kinds;
 use records::record;
 use records::record::Step;
 
-#[derive(Drop)]
+#[derive(Clone, Copy)]
 pub enum Code {
     // All instruction records passed: where the last one ends, its kind, and how many are awaits.
     Ended(usize, usize, usize),
@@ -28,7 +28,7 @@ impl Code {
     }
 }
 
-#[derive(Drop)]
+#[derive(Clone, Copy)]
 pub enum Slots {
     // All slot records passed: where the last one ends, and how many words of slots there are up to the last that may be a host slot.
     Through(usize, usize),

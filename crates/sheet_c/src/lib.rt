@@ -1,4 +1,6 @@
 // The sheet checks, 1 to 9 and 17, for hosts in C and Rust.
+#![tactic(auto)]
+
 ghost use Rattle.std.specs.Prelude.{◌≡◌};
 ghost use Rattle.sheet.specs.Scripts.{checked_of};
 ghost use Rattle.sheet_c.specs.Exports.{facts_of};
@@ -7,7 +9,7 @@ use sheet::script::Checked;
 
 // Number 0 and what the engine has to know of the sheet; or the number of the refusal, with the function's id alone.
 #[repr(C)]
-#[derive(Drop)]
+#[derive(Clone, Copy)]
 pub struct SheetFacts {
     pub number: u64,
     pub id: u64,

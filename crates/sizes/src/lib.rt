@@ -1,4 +1,6 @@
 // Document 01's sizes of the lent buffers for a script, and whether they have room for it: the state limit (11), then the later 10.
+#![tactic(auto)]
+
 ghost use Rattle.std.specs.Prelude.{◌≡◌, ◌≤◌};
 ghost use Rattle.sizes.specs.Sizes.{scratch_words, answer_words, sets_words, layout_of, short_of};
 ghost use Rattle.sizes.specs.Stages.{rooms_of};
@@ -8,7 +10,7 @@ use format::refusal::Refusal;
 use sheet::script::Script;
 
 // The numbers that fix both layouts: instructions, blocks, words a set, awaits, and how many edges there may be past two a block.
-#[derive(Drop)]
+#[derive(Clone, Copy)]
 pub struct Layout {
     pub instructions: usize,
     pub blocks: usize,
@@ -18,14 +20,14 @@ pub struct Layout {
 }
 
 // How long the other lent buffers are: words of sets, and block records.
-#[derive(Drop)]
+#[derive(Clone, Copy)]
 pub struct Lent {
     pub sets: usize,
     pub records: usize,
 }
 
 // The layout and the budget to go on with, or a refusal with the budget as charged.
-#[derive(Drop)]
+#[derive(Clone, Copy)]
 pub enum Staged {
     Ok(Layout, FlowBudget),
     Refused(Refusal, FlowBudget),

@@ -1,4 +1,6 @@
 // The visits of `propagate` of solver.rs, over the words of both buffers.
+#![tactic(auto)]
+
 mod dependents;
 pub mod drain;
 pub mod ring;

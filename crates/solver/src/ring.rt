@@ -8,14 +8,14 @@ use memory::layout;
 use sizes::Layout;
 
 // Where the first of the waiting blocks stands, and how many wait.
-#[derive(Drop)]
+#[derive(Clone, Copy)]
 pub struct Ring {
     pub head: usize,
     pub count: usize,
 }
 
 // A charge crossed the limit, or the run went on.
-#[derive(Drop)]
+#[derive(Clone, Copy)]
 pub enum Turn {
     Stop(FlowBudget),
     Done(Ring, FlowBudget),

@@ -1,4 +1,6 @@
 // The set that block 0 starts from, in a row of words: the sheet's own parameters, and those of the added words that are slots of it.
+#![tactic(auto)]
+
 ghost use Rattle.std.specs.Prelude.{◌≡◌, ◌+◌, ◌*◌, ◌/◌, ◌≤◌, length};
 ghost use Rattle.sheet.specs.Decode.{parts_of};
 ghost use Rattle.instructions.specs.Sound.{Sound};

@@ -5,7 +5,7 @@ ghost use Rattle.transfer.specs.Directions.{reads_of};
 use memory::edges::Side;
 
 // `Direction` of solver.rs.
-#[derive(Drop)]
+#[derive(Clone, Copy)]
 pub enum Direction {
     Initialization,
     Liveness,
