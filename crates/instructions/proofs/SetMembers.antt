@@ -13,6 +13,7 @@ use Rattle.bitset.specs.Sets.{member}
 use Rattle.bitset.specs.Operations.{inserted}
 use Rattle.bitset.proofs.SetLaws.{same-either_way, length_inserted, member_inserted, member-zero}
 use Rattle.format.specs.Types.{absent}
+use Rattle.format.specs.Heads.{end_at}
 use Rattle.sheet.specs.Decode.{SlotKind, Parts, parts_of, records_from, is_host}
 use Rattle.sheet.specs.declared.script.Script.{Script}
 use Rattle.bitset.specs.Below.{AllBelow}
@@ -97,7 +98,7 @@ host-member p w k h =
 pub records-count : {A : Type 0} (read : ℕ → A) (s : List ℕ) (at n : ℕ) → length (records_from read s at n) ≡ n
 unfolding records_from
 records-count read s at zero = refl
-records-count read s at (suc n) = ap suc (records-count read s _ n)
+records-count read s at (suc n) = ap suc (records-count read s (end_at s at) n)
 
 -- the same of a sheet that passed, in rows wide enough for its slots
 module _ (s : List ℕ) (x : Script) (ok : Sound s x) (w : ℕ) (h : x.slots ≤ 64 * w) where

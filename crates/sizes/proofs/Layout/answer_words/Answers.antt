@@ -1,0 +1,15 @@
+-- `sizes::Layout::answer_words` meets its contract. Assumes nothing.
+use Rattle.std.proofs.Common.{mul-le-mul, arith}
+use Rattle.sizes.proofs.Layout.answer_words.Goals as goal
+
+pub overflow_mul-result-2 : goal.overflow_mul-result-2
+overflow_mul-result-2 c =
+    omega (arith, mul-le-mul c.requires.0 c.requires.1)
+
+pub overflow_mul-result-3 : goal.overflow_mul-result-3
+overflow_mul-result-3 c =
+    omega (arith, mul-le-mul c.requires.2 c.requires.1)
+
+pub overflow_add-result-2 : goal.overflow_add-result-2
+overflow_add-result-2 c =
+    omega (arith, mul-le-mul c.requires.0 c.requires.1, mul-le-mul c.requires.2 c.requires.1)
