@@ -1,5 +1,5 @@
 -- The ring's words as a queue, the marks as truth values, and lists of blocks. Assumes nothing.
-use mathlib.Core.Path.{◌≡◌, refl, sym, ap, ◌∙◌}
+use mathlib.Core.Path.{◌≡◌, refl, sym, ap, subst, ◌∙◌}
 use mathlib.Core.Bool.{Bool, true, false}
 use mathlib.Core.List.{List, [], ◌∷◌, ◌++◌, map, reverse_aux}
 use Prim.Native.Nat.{ℕ, zero, suc, ◌+◌, ◌-◌, ◌≤◌, ◌<◌}
@@ -52,7 +52,9 @@ module _ (y : Layout) where
   ring_push r h (suc n) d l lh ln =
       let q : suc n + 1 ≡ suc (n + 1) = omega arith in
       rw (q, get_or-set_other r (wrap y (h + suc n)) h d 0 (wrap-apart h n lh ln))
-      (ap (λ (t : List ℕ). get_or r h 0 ∷ t) (rw (wrap-next h n lh (omega arith)) (ring_push r (wrap y (h + 1)) n d l (wrap-lt y (h + 1) (omega arith)) (omega arith))))
+      (ap (λ (t : List ℕ). get_or r h 0 ∷ t)
+      (subst (λ (k : ℕ). ring_words y (set r k d) (wrap y (h + 1)) (n + 1) ≡ ring_words y r (wrap y (h + 1)) n ++ (d ∷ []))
+      (sym (wrap-next h n lh (omega arith))) (ring_push r (wrap y (h + 1)) n d l (wrap-lt y (h + 1) (omega arith)) (omega arith))))
 
   -- the word at the head is the first of the queue
   pub ring_pop : (r : List ℕ) (h n : ℕ) → (n ≡ 0 → ⊥) → ring_words y r h n ≡ get_or r h 0 ∷ ring_words y r (wrap y (h + 1)) (n - 1)

@@ -1,0 +1,10 @@
+use Rattle.std.proofs.Common.{◌≡◌, ◌+◌, ◌*◌, ◌-◌, ◌≤◌, ◌<◌, length}
+use Rattle.instructions.proofs.SetSteps.{Hosted}
+use Rattle.instructions.proofs.sets.insert_host_slots.Given as goal
+
+abbrev pub invariant-loop-k : goal.invariant-loop-k
+invariant-loop-k l =
+    (l.base + l.w ≤ length l.initial.words) × (l.j ≤ l.w) × (l.k < l.count → l.k ≡ 64 * l.j) × Hosted l.s l.first l.count l.initial.words l.base l.w l.at l.k l.words
+
+abbrev pub decreases-loop-k : goal.decreases-loop-k
+decreases-loop-k l = l.count - l.k

@@ -1,0 +1,10 @@
+-- `transfer::compute::running` meets its contract: each direction has its row. Assumes nothing.
+use Rattle.transfer.proofs.compute.running.Goals as goal
+
+pub returns-in-Initialization : goal.returns-in-Initialization
+returns-in-Initialization c =
+    rw c.in-Initialization.is c.state.ensures
+
+pub returns-in-Liveness : goal.returns-in-Liveness
+returns-in-Liveness c =
+    rw c.in-Liveness.is c.live_state.ensures

@@ -1,0 +1,16 @@
+-- `transfer::compute::transfer` meets its contract: the transfer of each direction. Assumes nothing.
+use Rattle.transfer.specs.Transfer.{transferred}
+use Rattle.transfer.proofs.compute.transfer.Goals as goal
+
+pub returns-in-Initialization : goal.returns-in-Initialization
+unfolding transferred
+returns-in-Initialization c =
+    let state = c.state in
+    let defines = c.defines in
+    let join = c.join in
+    rw c.in-Initialization.is (rw (state.ensures, defines.ensures) at join.ensures)
+
+pub returns-in-Liveness : goal.returns-in-Liveness
+returns-in-Liveness c =
+    let transfer-live = c.transfer_live in
+    rw c.in-Liveness.is transfer-live.ensures
