@@ -3,6 +3,7 @@ ghost use Rattle.std.specs.Prelude.{◌≤◌};
 
 use crate::{call, print};
 use budget::FlowBudget;
+use std::io;
 
 // Is this the name of a line that asks for case n?
 pub fn is_asked(name: &[u8]) -> bool {
@@ -21,41 +22,38 @@ pub fn is_asked(name: &[u8]) -> bool {
 }
 
 // Answers for 1 to 2,049 blocks.
-pub fn answer(name: &[u8], blocks: usize) {
+pub fn answer(rt: &impl Print, name: &[u8], blocks: usize) -> io::Result<()> {
     if blocks == 0 {
-        print::unread(name);
-        return;
+        return print::unread(rt, name);
     }
     if blocks > 2049 {
-        print::unread(name);
-        return;
+        return print::unread(rt, name);
     }
     let mut room = [0u8; 409250];
-    answer_in(name, &mut room, blocks);
+    answer_in(rt, name, &mut room, blocks)
 }
 
 // Behind a reference the array's length is known without its bytes.
-fn answer_in(name: &[u8], room: &mut [u8; 409250], blocks: usize)
+fn answer_in(rt: &impl Print, name: &[u8], room: &mut [u8; 409250], blocks: usize) -> io::Result<()>
     requires { blocks ≤ 65536 }
 {
-    build(name, room, blocks);
+    build(rt, name, room, blocks)
 }
 
 // Writes the sheet and calls with it.
-fn build(name: &[u8], room: &mut [u8], blocks: usize)
+fn build(rt: &impl Print, name: &[u8], room: &mut [u8], blocks: usize) -> io::Result<()>
     requires { blocks ≤ 65536 }
 {
     let n = 392858 + 8 * blocks;
     if n > room.len() {
-        print::unread(name);
-        return;
+        return print::unread(rt, name);
     }
     write(room, blocks);
-    run(name, &room[0..n]);
+    run(rt, name, &room[0..n])
 }
 
 // No block record and no word of sets is lent, and 8,196 words of scratch: four for each of 2,049 instructions.
-fn run(name: &[u8], sheet: &[u8]) {
+fn run(rt: &impl Print, name: &[u8], sheet: &[u8]) -> io::Result<()> {
     let mut blocks = [0u64; 0];
     let mut sets = [0u64; 0];
     let mut scratch = [0u64; 8196];
@@ -63,7 +61,15 @@ fn run(name: &[u8], sheet: &[u8]) {
         work: 0,
         retained: 0,
     };
-    call::run(name, sheet, budget, &mut blocks, &mut sets, &mut scratch);
+    call::run(
+        rt,
+        name,
+        sheet,
+        budget,
+        &mut blocks,
+        &mut sets,
+        &mut scratch,
+    )
 }
 
 // The sheet: as many instructions as blocks.

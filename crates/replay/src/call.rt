@@ -2,38 +2,45 @@
 use crate::print;
 use crate::text::Request;
 use budget::FlowBudget;
+use std::io;
 
 // Answers a request: at most 64 block records, 512 words of sets and 8,192 words of scratch.
-pub fn answer(name: &[u8], sheet: &[u8], request: Request) {
+pub fn answer(rt: &impl Print, name: &[u8], sheet: &[u8], request: Request) -> io::Result<()> {
     let mut blocks = [0u64; 384];
     let mut sets = [0u64; 512];
     let mut scratch = [0u64; 8192];
-    lend(name, sheet, request, &mut blocks, &mut sets, &mut scratch);
+    lend(
+        rt,
+        name,
+        sheet,
+        request,
+        &mut blocks,
+        &mut sets,
+        &mut scratch,
+    )
 }
 
 // Lends the start of each buffer, as long as is asked, if there is so much.
 fn lend(
+    rt: &impl Print,
     name: &[u8],
     sheet: &[u8],
     request: Request,
     blocks: &mut [u64],
     sets: &mut [u64],
     scratch: &mut [u64],
-) {
+) -> io::Result<()> {
     let a = request.records;
     let b = request.sets;
     let c = request.scratch;
     if a > blocks.len() / 6 {
-        print::unread(name);
-        return;
+        return print::unread(rt, name);
     }
     if b > sets.len() {
-        print::unread(name);
-        return;
+        return print::unread(rt, name);
     }
     if c > scratch.len() {
-        print::unread(name);
-        return;
+        return print::unread(rt, name);
     }
     let words = 6 * a;
     let budget = FlowBudget {
@@ -41,32 +48,34 @@ fn lend(
         retained: request.retained,
     };
     run(
+        rt,
         name,
         sheet,
         budget,
         &mut blocks[0..words],
         &mut sets[0..b],
         &mut scratch[0..c],
-    );
+    )
 }
 
 // Calls, and prints what the call answers and leaves.
 pub fn run(
+    rt: &impl Print,
     name: &[u8],
     sheet: &[u8],
     budget: FlowBudget,
     blocks: &mut [u64],
     sets: &mut [u64],
     scratch: &mut [u64],
-) {
+) -> io::Result<()> {
     garble(blocks);
     garble(sets);
     garble(scratch);
     let a = flow::verify(sheet, budget, blocks, sets, scratch);
-    print::answer(name, a);
-    print::words(blocks);
-    print::words(sets);
-    print::end(scratch);
+    print::answer(rt, name, a)?;
+    print::words(rt, blocks)?;
+    print::words(rt, sets)?;
+    print::end(rt, scratch)
 }
 
 // Fills words with garbage, another in each: multiples of an odd number.

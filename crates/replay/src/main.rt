@@ -12,91 +12,111 @@ mod call;
 mod print;
 mod text;
 
+ghost use Rattle.std.specs.Prelude.{◌≤◌, length, IfOk};
+
+use std::io;
+use std::io::Read;
 use text::{Asked, Parsed, Request};
 
-fn main() {
+fn main(rt: HostRuntime) -> io::Result<()> {
     let mut input = [0u8; 1048577];
-    answer_array(&mut input);
+    answer_array(&rt, &mut input)
 }
 
 // Behind a reference the array's length is known without its bytes.
-fn answer_array(input: &mut [u8; 1048577]) {
-    answer_input(input);
+fn answer_array(rt: &(impl Input + Print), input: &mut [u8; 1048577]) -> io::Result<()> {
+    answer_input(rt, input)
 }
 
 // Reads the input and answers it. One that fills all the room is too long.
-fn answer_input(room: &mut [u8]) {
-    let n = io::read_full(0, room);
+fn answer_input(rt: &(impl Input + Print), room: &mut [u8]) -> io::Result<()> {
+    let n = read_full(rt, room)?;
     if n == room.len() {
-        print::unread(b"?");
-        return;
+        return print::unread(rt, b"?");
     }
-    answer_all(&room[..n]);
+    answer_all(rt, &room[..n])
+}
+
+// Reads until the buffer is full or the input ends, and answers how many bytes it put at the start of the buffer.
+fn read_full(rt: &impl Input, buffer: &mut [u8]) -> io::Result<usize>
+    ensures { IfOk result (λ n. n ≤ length buffer.new) }
+{
+    let mut input = rt.reader();
+    let mut done = 0;
+    while done < buffer.len() {
+        let n = input.read(&mut buffer[done..])?;
+        if n == 0 {
+            return Ok(done);
+        }
+        done += n;
+    }
+    Ok(done)
 }
 
 // Answers the lines of a text in order.
-fn answer_all(input: &[u8]) {
+fn answer_all(rt: &impl Print, input: &[u8]) -> io::Result<()> {
     let mut at = 0;
     while at < input.len() {
         let end = text::line_end(input, at);
-        answer_line(&input[at..end]);
+        answer_line(rt, &input[at..end])?;
         if end >= input.len() {
-            return;
+            return Ok(());
         }
         at = end + 1;
     }
+    Ok(())
 }
 
 // Answers one line, or skips it.
-fn answer_line(line: &[u8]) {
+fn answer_line(rt: &impl Print, line: &[u8]) -> io::Result<()> {
     if line.len() == 0 {
-        return;
+        return Ok(());
     }
     if line[0] == b'#' {
-        return;
+        return Ok(());
     }
     let n = text::name_end(line);
     if n == 0 {
-        print::unread(b"?");
-        return;
+        return print::unread(rt, b"?");
     }
     let name = &line[0..n];
     if built::is_asked(name) {
-        answer_built(name, line, n);
-        return;
+        return answer_built(rt, name, line, n);
     }
-    answer_call(name, line, n);
+    answer_call(rt, name, line, n)
 }
 
 // `n-built BLOCKS`: a number and nothing after it.
-fn answer_built(name: &[u8], line: &[u8], from: usize) {
+fn answer_built(rt: &impl Print, name: &[u8], line: &[u8], from: usize) -> io::Result<()> {
     let Parsed::Number(blocks, at) = text::field(line, from) else {
-        print::unread(name);
-        return;
+        return print::unread(rt, name);
     };
     if at < line.len() {
-        print::unread(name);
-        return;
+        return print::unread(rt, name);
     }
-    built::answer(name, blocks as usize);
+    built::answer(rt, name, blocks as usize)
 }
 
 // A call: five numbers and the sheet.
-fn answer_call(name: &[u8], line: &[u8], from: usize) {
+fn answer_call(rt: &impl Print, name: &[u8], line: &[u8], from: usize) -> io::Result<()> {
     let Asked::Call(request, at) = text::numbers(line, from) else {
-        print::unread(name);
-        return;
+        return print::unread(rt, name);
     };
     let mut sheet = [0u8; 4096];
     let n = text::sheet(line, at, &mut sheet);
-    answer_sheet(name, &sheet, n, request);
+    answer_sheet(rt, name, &sheet, n, request)
 }
 
 // The sheet is the first `n` bytes; it was not read where there are not so many.
-fn answer_sheet(name: &[u8], sheet: &[u8], n: usize, request: Request) {
+fn answer_sheet(
+    rt: &impl Print,
+    name: &[u8],
+    sheet: &[u8],
+    n: usize,
+    request: Request,
+) -> io::Result<()> {
     if n > sheet.len() {
-        print::unread(name);
-        return;
+        return print::unread(rt, name);
     }
-    call::answer(name, &sheet[0..n], request);
+    call::answer(rt, name, &sheet[0..n], request)
 }

@@ -3,56 +3,62 @@ ghost use Rattle.std.specs.Prelude.{◌≤◌, length};
 
 use answers::Answer;
 use budget::FlowBudget;
+use std::io;
 
 // A line that was not read.
-pub fn unread(name: &[u8]) {
-    io::write_all(1, name);
-    io::write_all(1, b" ?\n");
+pub fn unread(rt: &impl Print, name: &[u8]) -> io::Result<()> {
+    rt.write_all(name)?;
+    rt.write_all(b" ?\n")
 }
 
 // The name and what `verify` answered.
-pub fn answer(name: &[u8], a: Answer) {
-    io::write_all(1, name);
+pub fn answer(rt: &impl Print, name: &[u8], a: Answer) -> io::Result<()> {
+    rt.write_all(name)?;
     match a {
         Answer::Accepted(id, blocks, awaits, budget) => {
-            numbers(0, id, blocks, awaits, budget);
+            numbers(rt, 0, id, blocks, awaits, budget)
         }
-        Answer::Refused(refusal, id, budget) => {
-            numbers(refusal.number(), id, 0, 0, budget);
-        }
+        Answer::Refused(refusal, id, budget) => numbers(rt, refusal.number(), id, 0, 0, budget),
     }
 }
 
-fn numbers(number: u64, id: u32, blocks: usize, awaits: usize, budget: FlowBudget) {
-    decimal(number);
-    decimal(id as u64);
-    decimal(blocks as u64);
-    decimal(awaits as u64);
-    decimal(budget.work);
-    decimal(budget.retained);
+fn numbers(
+    rt: &impl Print,
+    number: u64,
+    id: u32,
+    blocks: usize,
+    awaits: usize,
+    budget: FlowBudget,
+) -> io::Result<()> {
+    decimal(rt, number)?;
+    decimal(rt, id as u64)?;
+    decimal(rt, blocks as u64)?;
+    decimal(rt, awaits as u64)?;
+    decimal(rt, budget.work)?;
+    decimal(rt, budget.retained)
 }
 
-fn decimal(n: u64) {
-    io::write_all(1, b" ");
-    io::print_decimal(1, n);
+fn decimal(rt: &impl Print, n: u64) -> io::Result<()> {
+    print!(rt; " {n}")
 }
 
 // Every word of a buffer, in hexadecimal.
-pub fn words(buffer: &[u64]) {
-    io::write_all(1, b" |");
+pub fn words(rt: &impl Print, buffer: &[u64]) -> io::Result<()> {
+    rt.write_all(b" |")?;
     let mut i = 0;
     while i < buffer.len() {
-        io::write_all(1, b" ");
-        io::print_hex(1, buffer[i], 1);
+        let word = buffer[i];
+        print!(rt; " {word:x}")?;
         i += 1;
     }
+    Ok(())
 }
 
 // How many words of scratch are not zero, and the line's end.
-pub fn end(scratch: &[u64]) {
-    io::write_all(1, b" |");
-    decimal(left_over(scratch));
-    io::write_all(1, b"\n");
+pub fn end(rt: &impl Print, scratch: &[u64]) -> io::Result<()> {
+    rt.write_all(b" |")?;
+    decimal(rt, left_over(scratch))?;
+    rt.write_all(b"\n")
 }
 
 // How many words are not zero.

@@ -1,0 +1,10 @@
+-- `answers::answer_of` meets its contract. Assumes nothing.
+use Rattle.std.proofs.Common.{sym, ap}
+use Rattle.answers.specs.Answers.{answer_in}
+use Rattle.answers.proofs.answer_of.Goals as goal
+
+pub returns-in-Accepted : goal.returns-in-Accepted
+returns-in-Accepted c = ap answer_in (sym c.in-Accepted.is)
+
+pub returns-in-Refused : goal.returns-in-Refused
+returns-in-Refused c = ap answer_in (sym c.in-Refused.is)
