@@ -7,7 +7,7 @@
  * leaves a buffer, and every call ends. The calls allocate nothing and keep nothing from one call to
  * the next.
  *
- * Link with libflow_c.a, which `rt staticlib flow_c` writes to target/staticlib (x86-64, Linux).
+ * Link with libflow_c.a, which `tools/staticlib flow_c` writes to target/staticlib (x86-64, Linux).
  * examples/c/check.c is a whole host. docs/REFUSALS.md has a sheet for each refusal.
  */
 #ifndef KAGARI_FLOW_H

@@ -1,4 +1,4 @@
-//! Links the port's static libraries, which `rt staticlib` writes to
+//! Links the port's static libraries, which `tools/staticlib` writes to
 //! `target/staticlib` of the repository. Part of the build scripts of the comparisons.
 
 use std::path::Path;
@@ -31,17 +31,16 @@ fn link(repository: &Path, library: &str) -> Result<(), String> {
     Ok(())
 }
 
-/// Runs `rt staticlib`. What it prints is part of what cargo shows on a failure.
+/// Runs `tools/staticlib`. What it prints is part of what cargo shows on a failure.
 fn make(repository: &Path, library: &str) -> Result<(), String> {
-    let mut rt = Command::new("rt");
-    rt.args(["staticlib", library]).current_dir(repository);
-    match rt.status() {
+    let mut script = Command::new(repository.join("tools/staticlib"));
+    match script.arg(library).status() {
         Ok(status) if status.success() => Ok(()),
         Ok(status) => Err(format!(
-            "lib{library}.a is missing and `rt staticlib {library}` failed ({status})"
+            "lib{library}.a is missing and `tools/staticlib {library}` failed ({status})"
         )),
         Err(error) => Err(format!(
-            "lib{library}.a is missing and `rt` can't be started ({error})"
+            "lib{library}.a is missing and `tools/staticlib` can't be started ({error})"
         )),
     }
 }

@@ -14,11 +14,19 @@ struct Listed {
     stands_on: Vec<String>,
 }
 
+/// The crate that a line `NAME: ..` or `NAME staticlib: ..` lists.
+fn name_in(line: &str) -> Option<&str> {
+    let name = line.split_once(':')?.0.split_whitespace().next()?;
+    name.chars()
+        .all(|c| c.is_alphanumeric() || c == '_')
+        .then_some(name)
+}
+
 fn listed() -> Vec<Listed> {
     let text = read("crates.txt");
     let lines = text.lines().filter(|line| !line.starts_with('#'));
     lines
-        .filter_map(|line| line.split_once(':'))
+        .filter_map(|line| Some((name_in(line)?, line.split_once(':')?.1)))
         .map(|(name, rest)| Listed {
             name: name.to_string(),
             stands_on: rest.split_whitespace().map(str::to_string).collect(),
@@ -41,12 +49,7 @@ fn headings(page: &str, heading: &str, name_in: impl Fn(&str) -> Option<&str>) -
 
 #[test]
 fn architecture_has_the_headings_and_crates_of_crates_txt() {
-    let in_list = headings("crates.txt", "# ── ", |line| {
-        let (name, _) = line.split_once(':')?;
-        name.chars()
-            .all(|c| c.is_alphanumeric() || c == '_')
-            .then_some(name)
-    });
+    let in_list = headings("crates.txt", "# ── ", name_in);
     let in_page = headings("docs/ARCHITECTURE.md", "## ", |line| {
         line.strip_prefix("| `")?
             .split_once("` | ")
@@ -85,7 +88,6 @@ fn code_below(folder: &Path, text: &mut String) {
 #[test]
 fn a_crate_lists_only_crates_that_its_files_name() {
     let all = listed();
-    let own: BTreeSet<_> = all.iter().map(|krate| krate.name.clone()).collect();
     for krate in &all {
         let mut text = String::new();
         for part in ["src", "specs", "proofs"] {
@@ -93,14 +95,14 @@ fn a_crate_lists_only_crates_that_its_files_name() {
         }
         for name in &krate.stands_on {
             let named = [
-                format!("Rattle·{name}."),
+                format!("Rattle.{name}."),
                 format!("use {name}::"),
                 format!("{name}::"),
             ];
             let is_named = named.iter().any(|way| text.contains(way));
-            // the kit asks for `libc` beside `io`; what a program's `main` is proved to do names the refusals, which no file of it does
-            let is_asked = !own.contains(name)
-                || (name == "format" && ["flowlist", "replay"].contains(&krate.name.as_str()));
+            // what a program's `main` is proved to do names the refusals, which no file of it does
+            let is_asked =
+                name == "format" && ["flowlist", "replay"].contains(&krate.name.as_str());
             assert!(is_named || is_asked, "{} lists {name}", krate.name);
         }
     }
@@ -139,12 +141,11 @@ fn what_the_call_answers_is_defined_without_the_engine() {
     }
 }
 
-/// The file of definitions that a `use` line names, below `crates`: `Rattle·CRATE.specs.FILE..`, or `Rattle·CRATE·specs.specs.FILE..` inside the crate.
+/// The file of definitions that a `use` line names, below `crates`: `Rattle.CRATE.specs.FILE..`.
 /// Types that the code declares (`declared`) have no such file.
 fn file_of(line: &str) -> Option<String> {
-    let (krate, rest) = line.strip_prefix("use Rattle·")?.split_once('.')?;
-    let krate = krate.trim_end_matches("·specs");
-    let file = rest.strip_prefix("specs.")?.split(['.', ' ']).next()?;
+    let (krate, rest) = line.strip_prefix("use Rattle.")?.split_once(".specs.")?;
+    let file = rest.split(['.', ' ']).next()?;
     let name = format!("{krate}/specs/{file}.antt");
     path("crates").join(&name).is_file().then_some(name)
 }
