@@ -1,3 +1,2 @@
 // Definitions and laws only: sets as words.
 #![tactic(auto)]
-

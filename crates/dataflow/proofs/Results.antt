@@ -19,7 +19,7 @@ use Rattle.dataflow.specs.Equations.{InitExact, LiveExact}
 use Rattle.dataflow.specs.Lists.{tabulate, sum, NoDup}
 use Rattle.dataflow.specs.Blocks.{exposed, block_program}
 use Rattle.dataflow.specs.BasicBlocks.{BasicBlocks, Place}
-use Rattle.dataflow.specs.Code.{Instruction, program, head_or, blocks, body, block_successors, block_graph}
+use Rattle.dataflow.specs.Code.{Instruction, program, head_or, body, block_successors, block_graph}
 use Rattle.dataflow.specs.BlockPaths.{first_of, ReachedBlock}
 use Rattle.dataflow.specs.Checked.{Checked}
 use Rattle.dataflow.specs.Worklist.{SoundRing, run}

@@ -1,5 +1,5 @@
 -- Kinds that the engine tells apart.
-use Rattle.std.specs.Prelude.{Bool, true, false, ◌||◌, ◌&&◌, ℕ, eqb, leb}
+use Rattle.std.specs.Prelude.{Bool, ◌||◌, ◌&&◌, ℕ, eqb, leb}
 
 -- document 01, module 3: a block ends with kinds 12 and 38 to 41 (`graph` of flow.rs)
 unfoldable pub ends_block : ℕ → Bool

@@ -1,5 +1,5 @@
 -- The field patterns of the 41 kinds of instruction record, as document 01 groups them under "Bodies, as kind numbers".
-use Rattle.std.specs.Prelude.{Bool, true, false, ◌||◌, List, [], ◌∷◌, ℕ, zero, suc, ◌+◌, ◌*◌, ◌-◌, min, eqb, leb}
+use Rattle.std.specs.Prelude.{Bool, false, ◌||◌, List, [], ◌∷◌, ℕ, zero, suc, ◌+◌, ◌*◌, min, eqb, leb}
 use Rattle.operands.specs.Choice.{pick}
 
 -- The roles of a field. D: output

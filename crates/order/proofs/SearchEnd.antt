@@ -1,9 +1,9 @@
 -- The depth-first search, turn by turn, and that at most three turns a block are taken. Assumes nothing.
 use mathlib.Core.Path.{◌≡◌, refl, sym, ap, subst, ◌∙◌}
 use mathlib.Core.List.{List, [], ◌∷◌}
-use Prim.Native.Nat.{ℕ, zero, suc, ◌+◌, ◌*◌, ◌≤◌, ◌<◌}
+use Prim.Native.Nat.{ℕ, zero, suc, ◌+◌, ◌<◌}
 use native.Mathlib.Omega.{arith}
-use native.Mathlib.Nat.{add-zero, add-suc, suc-add, zero-add}
+use native.Mathlib.Nat.{add-zero}
 use lib.ListN.{length, get_or}
 use Rattle.dataflow.specs.Lists.{tabulate, sum}
 use Rattle.dataflow.specs.Search.{Frame, Search, advance, on_top, search, turns, all_turns}

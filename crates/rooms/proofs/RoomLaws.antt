@@ -34,7 +34,7 @@ use Rattle.leaders.proofs.BlockLaws.{blocks_are}
 use Rattle.leaders.proofs.IndexLaws.{indexed, indexed-grown, few_blocks}
 use Rattle.sizes.specs.declared.Lent.{Lent}
 use Rattle.sizes.specs.declared.Staged.{Staged}
-use Rattle.sizes.specs.declared.Staged.TheVariants.{Ok, Refused}
+use Rattle.sizes.specs.declared.Staged.TheVariants.{Refused}
 use Rattle.rooms.specs.Rooms.{Indexes, Counted, Measured}
 use Rattle.sizes.specs.Stages.{rooms_of, if_met}
 use Rattle.sizes.proofs.StageLaws.{rooms_yes}

@@ -1,3 +1,2 @@
 // A decoded sheet as a program: definitions and laws only.
 #![tactic(auto)]
-

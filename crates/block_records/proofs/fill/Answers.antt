@@ -1,4 +1,4 @@
-use Rattle.std.proofs.Common.{ℕ, List, arith, ap, sym, ◌∙◌, ◌<◌, length}
+use Rattle.std.proofs.Common.{List, arith, ap, sym, ◌∙◌, ◌<◌, length}
 use lib.ListN.{set}
 use Rattle.memory.specs.Scratch.{scratch}
 use Rattle.block_records.specs.Records.{listed_block}

@@ -12,8 +12,7 @@ loop-block-init c =
 
 pub check_block-r-requires : goal.check_block-r-requires
 check_block-r-requires c =
-    let l = c.loop-block in
-    (
+    let l = c.loop-block in (
       subst (λ (n : ℕ). Room c.args.y n) (sym l.invariant.0) c.requires.0,
       subst (λ (n : ℕ). SetsRoom c.args.y n) (sym l.invariant.1) c.requires.1,
       turned_held l.invariant.2 c.loop-block-test.true,

@@ -13,18 +13,16 @@ gather-requires c =
     (p.0, p.1, p.2.inside, solved-connected p.2.solved)
 
 pub get-start-requires : goal.get-start-requires
-get-start-requires c =
-    (
-      subst (λ (n : ℕ). Room c.args.y n) (sym c.gather.auto.s) c.requires.0,
-      place_blocks c.args.y start_cell c.args.block (omega arith) (omega arith) c.requires.2.inside,
-    )
+get-start-requires c = (
+  subst (λ (n : ℕ). Room c.args.y n) (sym c.gather.auto.s) c.requires.0,
+  place_blocks c.args.y start_cell c.args.block (omega arith) (omega arith) c.requires.2.inside,
+)
 
 pub get-end-requires : goal.get-end-requires
-get-end-requires c =
-    (
-      subst (λ (n : ℕ). Room c.args.y n) (sym c.gather.auto.s) c.requires.0,
-      place_blocks c.args.y end_cell c.args.block (omega arith) (omega arith) c.requires.2.inside,
-    )
+get-end-requires c = (
+  subst (λ (n : ℕ). Room c.args.y n) (sym c.gather.auto.s) c.requires.0,
+  place_blocks c.args.y end_cell c.args.block (omega arith) (omega arith) c.requires.2.inside,
+)
 
 pub block_reads-r-requires : goal.block_reads-r-requires
 block_reads-r-requires c =

@@ -13,13 +13,12 @@ returns-in_default c =
     c.in_default.is
 
 pub propagate-requires : goal.propagate-requires
-propagate-requires c =
-    (
-      search rules,
-      search rules,
-      seedable_again c.propagate-c.new.s (search rules) c.propagate-c.ensures c.in-Ok.is c.requires.2,
-      c.requires.3,
-    )
+propagate-requires c = (
+  search rules,
+  search rules,
+  seedable_again c.propagate-c.new.s (search rules) c.propagate-c.ensures c.in-Ok.is c.requires.2,
+  c.requires.3,
+)
 
 pub returns : goal.returns
 returns c =

@@ -1,5 +1,4 @@
 -- `flow_blocks::verify` meets its contract: the sheet examined, the block list filled from scratch, scratch cleared. Assumes nothing.
-use Rattle.std.proofs.Common.{arith}
 use Rattle.answers.proofs.AnswerLaws.{fill_asks}
 use Rattle.flow_blocks.proofs.BlockLaws.{blocks_verified}
 use Rattle.flow_blocks.proofs.verify.Goals as goal

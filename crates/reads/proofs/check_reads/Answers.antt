@@ -200,12 +200,12 @@ returns-then-pc-end c =
     let block = c.block in
     let coded = reading_coded pre.1 block.invariant.3 in
     elim c.block-test.branch [
-      else-block-test w ↦ absurd (omega arith)
-    | then-block-test+in-Ok+then-loop-k-test+then-misses_input w ↦
-      let lt = w.block-test.true in
-      let r = noted_read coded block.pc (omega (arith, lt, pre.3)) w.get-at.ensures w.instruction_at-p.ensures in
-      let paid = noted_cost coded block.pc (omega (arith, lt, pre.3)) w.get-cost.ensures in
-      reads_unfilled block.invariant.3 lt paid w.charge-c.ensures w.in-Ok.is r.inputs_are r.inputs_below w.loop-k.k state.ensures
+      | else-block-test w ↦ absurd (omega arith)
+      | then-block-test+in-Ok+then-loop-k-test+then-misses_input w ↦
+          let lt = w.block-test.true in
+          let r = noted_read coded block.pc (omega (arith, lt, pre.3)) w.get-at.ensures w.instruction_at-p.ensures in
+          let paid = noted_cost coded block.pc (omega (arith, lt, pre.3)) w.get-cost.ensures in
+          reads_unfilled block.invariant.3 lt paid w.charge-c.ensures w.in-Ok.is r.inputs_are r.inputs_below w.loop-k.k state.ensures
           (omega (arith, w.loop-k-test.true, paid, ap length r.inputs_are)) w.misses_input.ensures w.if-misses_input.true w.left-is
     ]
 
@@ -213,6 +213,6 @@ pub returns : goal.returns
 returns c =
     let block = c.block in
     elim c.block-test.branch [
-      else-block-test w ↦ reads_filled block.invariant.3 (omega (arith, c.if-pc-end.false, block.invariant.1)) w.left-is
-    | then-block-test+in-Ok+then-loop-k-test+then-misses_input w ↦ absurd (omega (arith, w.block-test.true, c.if-pc-end.false))
+      | else-block-test w ↦ reads_filled block.invariant.3 (omega (arith, c.if-pc-end.false, block.invariant.1)) w.left-is
+      | then-block-test+in-Ok+then-loop-k-test+then-misses_input w ↦ absurd (omega (arith, w.block-test.true, c.if-pc-end.false))
     ]

@@ -58,8 +58,7 @@ loop-index-preserved c =
     let loop = c.loop-index in
     let test = c.loop-index-test in
     let block = c.block-c in
-    let fresh = c.fresh in
-    (
+    let fresh = c.fresh in (
       omega (arith, test.true),
       block.auto.s ∙ loop.invariant.1,
       fresh.auto.t ∙ loop.invariant.2,

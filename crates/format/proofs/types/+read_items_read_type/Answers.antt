@@ -1,6 +1,5 @@
 -- `format::types::+read_items_read_type` meets its contract. Assumes nothing.
 use Rattle.std.proofs.Common.{◌∙◌, sym, ◌+◌, arith, rules}
-use borrow.Fn.PlainCycle.{is}
 use Rattle.format.specs.Types.{type_at}
 use Rattle.format.proofs.TypeLaws.{short-type, deep, cut, tuple_type, plain_type, no_type, zero_type, none_left, next_item, stop_item}
 use Rattle.format.proofs.types.+read_items_read_type.Goals as goal
