@@ -46,6 +46,9 @@ pub fn check_points(
     Points::Passed(place, left)
 }
 
+// The mark of a block that no path reaches.
+const UNREACHABLE: u64 = 0;
+
 // A block that is not reachable passes.
 fn check_block(
     sheet: &[u8],
@@ -61,7 +64,7 @@ fn check_block(
     requires { Room y (length s.old) × SetsRoom y (length t.old) × (Facing sheet.now (held_set y (scratch y s.old)) script y block place (scratch y s.old) (sets y t.old)) }
     ensures { BlockChecked sheet.now (held_set y (scratch y s.old)) script y limits budget block place (scratch y s.old) (scratch y s.new) (sets y t.old) (sets y t.new) result }
 {
-    if memory::scratch::get(s, y, layout::REACHABLE, block) == 0 {
+    if memory::scratch::get(s, y, layout::REACHABLE, block) == UNREACHABLE {
         return Points::Passed(place, budget);
     }
     check_reached(sheet, s, t, script, y, block, place, limits, budget)

@@ -11,16 +11,16 @@ get-requires c =
     let p = c.requires in
     (p.0, place_blocks a.y reachable_cell a.block (omega arith) (omega arith) p.2.inside)
 
-pub returns-then-get-eq0 : goal.returns-then-get-eq0
-returns-then-get-eq0 c =
+pub returns-then-get-eq-UNREACHABLE : goal.returns-then-get-eq-UNREACHABLE
+returns-then-get-eq-UNREACHABLE c =
     let a = c.args in
     let p = c.requires in
-    block_passed p.2 c.get.ensures a.limits a.budget c.if-get-eq0.true
+    block_passed p.2 c.get.ensures a.limits a.budget c.if-get-eq-UNREACHABLE.true
 
 pub check_reached-requires : goal.check_reached-requires
 check_reached-requires c =
     let p = c.requires in
-    (p.0, p.1, p.2, is_reached p.2 c.get.ensures c.if-get-eq0.false)
+    (p.0, p.1, p.2, is_reached p.2 c.get.ensures c.if-get-eq-UNREACHABLE.false)
 
 pub returns : goal.returns
 returns c =
