@@ -20,7 +20,7 @@ use Rattle.outcome.specs.Outcome.{Lengths, lengths_with, outcome_of}
 use Rattle.outcome.specs.Buffers.{sets_after}
 use Rattle.demands.proofs.TableLaws.{table}
 use Rattle.demands.proofs.DemandLaws.{Below, sound_script, demands}
-use Rattle.examine.specs.Examine.{outcome_in, Examines}
+use Rattle.examine.specs.Examine.{outcome_in, Listing, Examines}
 use Rattle.examine.specs.declared.Examined.{Examined}
 use Rattle.examine.specs.declared.Examined.TheVariants.{Accepted, Refused}
 use Rattle.answers.specs.declared.Answer.{Answer}
@@ -46,6 +46,14 @@ at_todays {s = s} {records = records} {b = b} {w = w} {w₁ = w₁} {v = v} {v' 
     subst (λ (set : ℕ → Bool). Examines s set todays records b w w₁ v v' e) (with_none (parts_of s) (0 ∷ []) (member-zero 1))
     (subst (λ (k : Limits). Examines s (parameter_with (parts_of s) (0 ∷ [])) k records b w w₁ v v' e) (ap counted q) h)
 
+-- ---- limits, and no added set
+
+-- nothing is added
+pub nothing-added : {s : List ℕ} {l : Limits} {records : ℕ} {b : FlowBudget} {w w₁ v v' : List ℕ} {e : Examined}
+    → Examines s (parameter_with (parts_of s) (0 ∷ [])) l records b w w₁ v v' e → Examines s (parameter_in (parts_of s)) l records b w w₁ v v' e
+nothing-added {s = s} {l = l} {records = records} {b = b} {w = w} {w₁ = w₁} {v = v} {v' = v'} {e = e} h =
+    subst (λ (set : ℕ → Bool). Examines s set l records b w w₁ v v' e) (with_none (parts_of s) (0 ∷ []) (member-zero 1)) h
+
 -- ---- the answer
 
 -- it keeps the outcome
@@ -53,14 +61,19 @@ pub same_outcome : (e : Examined) → outcome_by (answer_in e) ≡ outcome_in e
 same_outcome (Accepted id y awaits b) = refl
 same_outcome (Refused r id b) = refl
 
--- what filling a block list asks: scratch has room for the layout
-pub fill_asks : {s : List ℕ} {parameter : ℕ → Bool} {l : Limits} {records : ℕ} {b : FlowBudget} {w w₁ v v' : List ℕ} {e : Examined}
-    → Examines s parameter l records b w w₁ v v' e → (y : Layout) → y ≡ layout_in e → Room y (length w₁)
-fill_asks {w₁ = w₁} {e = e} h y q = subst (λ (z : Layout). Room z (length w₁)) (sym q) (go e refl)
+-- what filling a block list asks: scratch has room for the layout. The first is of any answer whose blocks are listed, also one with an added set.
+pub fill_asks-listed : {s : List ℕ} {records : ℕ} {w₁ : List ℕ} {e : Examined}
+    → ((id : ℕ) (y : Layout) (awaits : ℕ) (left : FlowBudget) → e ≡ Accepted id y awaits left → Listing s records w₁ y)
+    → (y : Layout) → y ≡ layout_in e → Room y (length w₁)
+fill_asks-listed {w₁ = w₁} {e = e} listing y q = subst (λ (z : Layout). Room z (length w₁)) (sym q) (go e refl)
   where
     go : (f : Examined) → e ≡ f → Room (layout_in f) (length w₁)
-    go (Accepted id y awaits left) q = (h.listing id y awaits left q).room
+    go (Accepted id y awaits left) q = (listing id y awaits left q).room
     go (Refused r id left) q = record { instructions = omega arith; blocks = omega arith; words = omega arith; extra = omega arith; fits = omega arith }
+
+pub fill_asks : {s : List ℕ} {parameter : ℕ → Bool} {l : Limits} {records : ℕ} {b : FlowBudget} {w w₁ v v' : List ℕ} {e : Examined}
+    → Examines s parameter l records b w w₁ v v' e → (y : Layout) → y ≡ layout_in e → Room y (length w₁)
+fill_asks h = fill_asks-listed h.listing
 
 -- a call whose answer is that of `examine`, and which then clears scratch
 pub verified : {s : List ℕ} {parameter : ℕ → Bool} {l : Limits} {b : FlowBudget} {records : ℕ} {w w₁ w' v v' : List ℕ} {e : Examined}

@@ -1,2 +1,3 @@
 -- Laws of what every form of the call shares.
 pub mod AnswerLaws
+pub mod LimitLaws

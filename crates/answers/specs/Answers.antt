@@ -10,6 +10,7 @@ use Rattle.demands.specs.Table.{Due}
 use Rattle.examine.specs.declared.Examined.{Examined}
 use Rattle.examine.specs.declared.Examined.TheVariants as examined
 use Rattle.answers.specs.declared.Answer.{Answer}
+use Rattle.answers.specs.declared.AnswerWithin.{AnswerWithin}
 use Rattle.answers.specs.declared.Answer.TheVariants.{Accepted, Refused}
 
 -- an answer in the words of document 01: function id, B, reachable awaits and budget; or refusal, function id and budget
@@ -34,6 +35,10 @@ pub record Verified (s : List ℕ) (parameter : ℕ → Bool) (l : Limits) (n : 
 abbrev pub answer_in : Examined → Answer
 answer_in (examined.Accepted id y awaits b) = Accepted id y.blocks awaits b
 answer_in (examined.Refused r id b) = Refused r id b
+
+-- with the limits as they were given
+abbrev pub answer_within : Examined → Limits → AnswerWithin
+answer_within e l = record { answer = answer_in e; limits = l }
 
 -- the layout in it: none after a refusal
 abbrev pub layout_in : Examined → Layout

@@ -1,2 +1,4 @@
 -- The call that checks a sheet.
 pub mod Verify
+pub mod Within
+pub mod With

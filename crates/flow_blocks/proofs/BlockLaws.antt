@@ -1,5 +1,5 @@
--- `verify` does what its contract says, by what its calls do. Assumes nothing.
-use mathlib.Core.Path.{◌≡◌, refl, sym, ap, ap₂, ◌∙◌}
+-- The calls do what their contracts say, by what their calls do. Assumes nothing.
+use mathlib.Core.Path.{◌≡◌, refl, sym, ap, ap₂, subst, ◌∙◌}
 use mathlib.Core.List.{List, [], ◌∷◌, ◌++◌}
 use Prim.Native.Nat.{ℕ, suc, ◌+◌, ◌-◌, ◌^◌, ◌%◌, ◌≤◌, ◌<◌}
 use native.Mathlib.Omega.{arith}
@@ -9,7 +9,8 @@ use Rattle.dataflow.proofs.Lists.{tabulate_among, tabulate_same, tabulate_append
 use Rattle.dataflow.specs.Code.{leaders, block_successors}
 use Rattle.dataflow.specs.Results.{reachable}
 use Rattle.budget.specs.declared.FlowBudget.{FlowBudget}
-use Rattle.budget.specs.Budget.{todays}
+use Rattle.budget.specs.declared.Limits.{Limits}
+use Rattle.budget.specs.Budget.{todays, counted, NowhereLower}
 use Rattle.sizes.specs.declared.Layout.{Layout}
 use Rattle.memory.specs.Cells.{Mem}
 use Rattle.memory.specs.Scratch.{scratch}
@@ -29,10 +30,17 @@ use Rattle.block_records.proofs.RecordLaws.{listed_in, listed_behind}
 use Rattle.examine.specs.Examine.{outcome_in, Listing, Examines}
 use Rattle.examine.specs.declared.Examined.{Examined}
 use Rattle.examine.specs.declared.Examined.TheVariants.{Accepted, Refused}
+use Rattle.added.specs.Examine.{ExaminesWith}
+use Rattle.added.proofs.OutcomeLaws.{accepted_with_sound}
+use Rattle.added.proofs.WithLaws.{verified-with}
 use Rattle.answers.specs.declared.Answer.{Answer}
-use Rattle.answers.specs.Answers.{outcome_by, answer_in, layout_in}
+use Rattle.answers.specs.declared.AnswerWithin.{AnswerWithin}
+use Rattle.answers.specs.Answers.{outcome_by, answer_in, answer_within, layout_in}
 use Rattle.answers.proofs.AnswerLaws.{own-slots, same_outcome, verified}
+use Rattle.answers.proofs.LimitLaws.{counted-above}
 use Rattle.flow_blocks.specs.BlocksVerify.{sheet_block, blocks_after, lengths_of, BlocksVerified}
+use Rattle.flow_blocks.specs.Within.{BlocksVerifiedUnder, BlocksVerifiedWithin}
+use Rattle.flow_blocks.specs.With.{BlocksVerifiedWith}
 use Rattle.flow_blocks.proofs.Bounds.{small_start, small-flag, small_count, small_successor}
 
 -- ---- lists
@@ -84,6 +92,41 @@ block-is s x ok m c e =
 
 -- ---- the call
 
+-- the list that is filled from scratch
+module _ (s : List ℕ) (list : List Block) (v w w₁ : List ℕ) (e : Examined)
+    (listing : (id : ℕ) (y : Layout) (awaits : ℕ) (left : FlowBudget) → e ≡ Accepted id y awaits left → Listing s (length list) w₁ y)
+    (sound : (id : ℕ) (y : Layout) (awaits : ℕ) (left : FlowBudget) → e ≡ Accepted id y awaits left → Sound s (script_of s)) where
+  list_listed : (f : Examined) → e ≡ f → tabulate 0 (length list) (listed_block (scratch (layout_in f) w₁) (layout_in f).blocks) ≡ blocks_after s (lengths_of list v w) (outcome_in f)
+  list_listed (Refused r id left) q =
+      blocks_then_zeros (scratch (layout_in (Refused r id left)) w₁) (sheet_block s) 0 (λ c lt. absurd (omega arith)) (length list) (omega arith)
+      ∙ ap (λ (k : ℕ). replicate k zero_block) (let z : length list - 0 ≡ length list = omega arith in z)
+  list_listed (Accepted id y awaits left) q =
+      let g : Listing s (length list) w₁ y = listing id y awaits left q in
+      blocks_then_zeros (scratch y w₁) (sheet_block s) y.blocks
+      (λ c lt. block-is s (script_of s) (sound id y awaits left q) (scratch y w₁) c (g.record_is c lt)) (length list) g.lent
+
+  list_left : (list' : List Block) (a : Answer) (y : Layout) → y ≡ layout_in e → list' ≡ tabulate 0 (length list) (listed_block (scratch y w₁) y.blocks)
+      → a ≡ answer_in e → list' ≡ blocks_after s (lengths_of list v w) (outcome_by a)
+  list_left list' a y ey filled is =
+      filled ∙ ap (λ (z : Layout). tabulate 0 (length list) (listed_block (scratch z w₁) z.blocks)) ey ∙ list_listed e refl
+      ∙ ap (blocks_after s (lengths_of list v w)) (sym (ap outcome_by is ∙ same_outcome e))
+
+-- under any limits, as they count
+module _ (s : List ℕ) (l : Limits) (b : FlowBudget) (list : List Block) (v w w₁ v' : List ℕ) (e : Examined)
+    (h : Examines s (parameter_in (parts_of s)) l (length list) b w w₁ v v' e) where
+  sound_here : (id : ℕ) (y : Layout) (awaits : ℕ) (left : FlowBudget) → e ≡ Accepted id y awaits left → Sound s (script_of s)
+  sound_here id y awaits left q =
+      accepted_sound s (parameter_in (parts_of s)) l (lengths_of list v w) b id y.blocks awaits left (sym h.answer ∙ ap outcome_in q)
+
+  pub blocks_under : (list' : List Block) (w' : List ℕ) (r : Answer) (y : Layout) → y ≡ layout_in e
+      → list' ≡ tabulate 0 (length list) (listed_block (scratch y w₁) y.blocks) → (r ≡ answer_in e) × (w' ≡ replicate (length w₁) 0)
+      → length w₁ ≡ length w → BlocksVerifiedUnder s l b list list' v v' w w' r
+  blocks_under list' w' r y ey filled (is, cleared) long = record {
+    verified = verified (own-slots s) h r is cleared long;
+    blocks = list_left s list v w w₁ e h.listing sound_here list' r y ey filled is;
+  }
+
+-- with today's
 module _ (s : List ℕ) (b : FlowBudget) (list : List Block) (v w w₁ v' : List ℕ) (e : Examined)
     (h : Examines s (parameter_in (parts_of s)) todays (length list) b w w₁ v v' e) where
   abbrev n : Lengths
@@ -91,13 +134,7 @@ module _ (s : List ℕ) (b : FlowBudget) (list : List Block) (v w w₁ v' : List
 
   -- the list that is filled from scratch
   list_after_lem : (f : Examined) → e ≡ f → tabulate 0 (length list) (listed_block (scratch (layout_in f) w₁) (layout_in f).blocks) ≡ blocks_after s n (outcome_in f)
-  list_after_lem (Refused r id left) q =
-      blocks_then_zeros (scratch (layout_in (Refused r id left)) w₁) (sheet_block s) 0 (λ c lt. absurd (omega arith)) (length list) (omega arith)
-      ∙ ap (λ (k : ℕ). replicate k zero_block) (let z : length list - 0 ≡ length list = omega arith in z)
-  list_after_lem (Accepted id y awaits left) q =
-      let g : Listing s (length list) w₁ y = h.listing id y awaits left q in
-      let ok : Sound s (script_of s) = accepted_sound s (parameter_in (parts_of s)) todays n b id y.blocks awaits left (sym h.answer ∙ ap outcome_in q) in
-      blocks_then_zeros (scratch y w₁) (sheet_block s) y.blocks (λ c lt. block-is s (script_of s) ok (scratch y w₁) c (g.record_is c lt)) (length list) g.lent
+  list_after_lem = list_listed s list v w w₁ e h.listing (sound_here s todays b list v w w₁ v' e h)
 
   pub blocks_verified : (list' : List Block) (w' : List ℕ) (r : Answer) (y : Layout) → y ≡ layout_in e
       → list' ≡ tabulate 0 (length list) (listed_block (scratch y w₁) y.blocks) → (r ≡ answer_in e) × (w' ≡ replicate (length w₁) 0)
@@ -107,3 +144,43 @@ module _ (s : List ℕ) (b : FlowBudget) (list : List Block) (v w w₁ v' : List
     blocks = filled ∙ ap (λ (z : Layout). tabulate 0 (length list) (listed_block (scratch z w₁) z.blocks)) ey ∙ list_after_lem e refl
         ∙ ap (blocks_after s n) (sym (ap outcome_by is ∙ same_outcome e));
   }
+
+-- with the limits as they were given
+module _ (s : List ℕ) (l : Limits) (b : FlowBudget) (list : List Block) (v w w₁ v' : List ℕ) (e : Examined)
+    (h : Examines s (parameter_in (parts_of s)) (counted l) (length list) b w w₁ v v' e) where
+  pub blocks_within : (list' : List Block) (w' : List ℕ) (r : AnswerWithin) (y : Layout) → y ≡ layout_in e
+      → list' ≡ tabulate 0 (length list) (listed_block (scratch y w₁) y.blocks) → (r ≡ answer_within e l) × (w' ≡ replicate (length w₁) 0)
+      → length w₁ ≡ length w → BlocksVerifiedWithin s l b list list' v v' w w' r
+  blocks_within list' w' r y ey filled (is, cleared) long = record {
+    verified = blocks_under s (counted l) b list v w w₁ v' e h list' w' r.answer y ey filled (ap (λ (z : AnswerWithin). z.answer) is, cleared) long;
+    limits = ap (λ (z : AnswerWithin). z.limits) is;
+  }
+
+-- with an added set
+module _ (s added : List ℕ) (l : Limits) (b : FlowBudget) (list : List Block) (v w w₁ v' : List ℕ) (e : Examined)
+    (h : ExaminesWith s added (counted l) (length list) b w w₁ v v' e) where
+  sound-with : (id : ℕ) (y : Layout) (awaits : ℕ) (left : FlowBudget) → e ≡ Accepted id y awaits left → Sound s (script_of s)
+  sound-with id y awaits left q =
+      accepted_with_sound s added (counted l) (lengths_of list v w) b id y.blocks awaits left (sym h.answer ∙ ap outcome_in q)
+
+  pub blocks_with : (list' : List Block) (w' : List ℕ) (r : AnswerWithin) (y : Layout) → y ≡ layout_in e
+      → list' ≡ tabulate 0 (length list) (listed_block (scratch y w₁) y.blocks) → (r ≡ answer_within e l) × (w' ≡ replicate (length w₁) 0)
+      → length w₁ ≡ length w → BlocksVerifiedWith s added l b list list' v v' w w' r
+  blocks_with list' w' r y ey filled (is, cleared) long =
+      let a : r.answer ≡ answer_in e = ap (λ (z : AnswerWithin). z.answer) is in
+      record {
+        verified = verified-with h (outcome_by r.answer) (ap outcome_by a ∙ same_outcome e) cleared long;
+        blocks = list_left s list v w w₁ e h.listing sound-with list' r.answer y ey filled a;
+        limits = ap (λ (z : AnswerWithin). z.limits) is;
+      }
+
+-- under today's limits this is what `verify` does
+blocks-own : {s : List ℕ} {b : FlowBudget} {list list' : List Block} {v v' w w' : List ℕ} {r : Answer} → BlocksVerifiedUnder s todays b list list' v v' w w' r
+    → BlocksVerified s b list list' v v' w w' r
+blocks-own h = record { verified = h.verified; blocks = h.blocks }
+
+-- today's limits, and any above them: it does what `verify` does
+pub blocks-todays : {s : List ℕ} {l : Limits} {b : FlowBudget} {list list' : List Block} {v v' w w' : List ℕ} {r : AnswerWithin} → NowhereLower todays l
+    → BlocksVerifiedWithin s l b list list' v v' w w' r → BlocksVerified s b list list' v v' w w' r.answer
+blocks-todays {s} {l} {b} {list} {list'} {v} {v'} {w} {w'} {r} le h =
+    blocks-own (subst (λ (k : Limits). BlocksVerifiedUnder s k b list list' v v' w w' r.answer) (counted-above l le) h.verified)

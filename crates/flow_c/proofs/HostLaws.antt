@@ -1,4 +1,4 @@
--- The exported call does what its contract says, by what its calls do. Assumes nothing.
+-- The exported calls do what their contracts say, by what their calls do. Assumes nothing.
 use mathlib.Core.Path.{◌≡◌, refl, sym, ap, subst, ◌∙◌}
 use mathlib.Core.List.{List, [], ◌∷◌}
 use Prim.Native.Nat.{ℕ, ◌^◌, ◌<◌}
@@ -7,6 +7,7 @@ use lib.Dec.{eqb}
 use lib.ListN.{get_or}
 use Rattle.dataflow.specs.Lists.{pick}
 use Rattle.budget.specs.declared.FlowBudget.{FlowBudget}
+use Rattle.budget.specs.declared.Limits.{Limits}
 use Rattle.format.specs.Refusals.{number_of}
 use Rattle.format.specs.declared.refusal.Refusal.{Refusal}
 use Rattle.format.specs.declared.refusal.Refusal.TheVariants.{
@@ -28,15 +29,23 @@ use Rattle.format.specs.declared.refusal.Refusal.TheVariants.{
   ParameterTwice,
 }
 use Rattle.outcome.specs.Outcome.{Outcome, accepted, refused}
-use Rattle.budget.specs.Budget.{todays}
+use Rattle.budget.specs.Budget.{todays, counted}
 use Rattle.sheet.specs.Decode.{parts_of}
 use Rattle.script.specs.Script.{parameter_in}
 use Rattle.block_records.specs.declared.Block.{Block}
+use Rattle.added.specs.Outcome.{VerifiedWith}
 use Rattle.answers.specs.declared.Answer.{Answer}
+use Rattle.answers.specs.declared.AnswerWithin.{AnswerWithin}
 use Rattle.answers.specs.Answers.{outcome_by, Verified}
 use Rattle.flow_blocks.specs.BlocksVerify.{blocks_after, lengths_of, BlocksVerified}
+use Rattle.flow_blocks.specs.Within.{BlocksVerifiedUnder, BlocksVerifiedWithin}
+use Rattle.flow_blocks.specs.With.{BlocksVerifiedWith}
+use Rattle.flow_c.specs.declared.HostLimits.{HostLimits}
 use Rattle.flow_c.specs.declared.FlowAnswer.{FlowAnswer}
+use Rattle.flow_c.specs.declared.FlowAnswerWithin.{FlowAnswerWithin}
 use Rattle.flow_c.specs.Exports.{answer_of, HostVerified}
+use Rattle.flow_c.specs.Within.{limits_of, host_limits_of, answer_within_of, HostVerifiedUnder, HostVerifiedWithin}
+use Rattle.flow_c.specs.With.{HostVerifiedWith}
 
 -- a refusal's number fits
 pub number_small : (r : Refusal) → number_of r < 2 ^ 32
@@ -109,7 +118,7 @@ back_is (refused HostOverAwait id b) = refl
 back_is (refused FactsLimit id b) = refl
 back_is (refused ParameterTwice id b) = refl
 
-answer-one : (o p : Outcome) → answer_of o ≡ answer_of p → o ≡ p
+pub answer-one : (o p : Outcome) → answer_of o ≡ answer_of p → o ≡ p
 answer-one o p e = sym (back_is o) ∙ ap back e ∙ back_is p
 
 -- ---- the call
@@ -122,3 +131,40 @@ hosted s c b list list' v v' w w' a r q h e = subst (λ (d : FlowBudget). HostVe
   verified = subst (λ (o : Outcome). Verified s (parameter_in (parts_of s)) todays (lengths_of list v w) c o v' w') h.verified.answer h.verified;
   blocks = h.blocks ∙ ap (blocks_after s (lengths_of list v w)) h.verified.answer;
 })
+
+-- ---- with limits
+
+hosted-under : (s : List ℕ) (l : Limits) (c b : FlowBudget) (list list' : List Block) (v v' w w' : List ℕ) (a : Answer) (r : FlowAnswer) → c ≡ b
+    → BlocksVerifiedUnder s l c list list' v v' w w' a → r ≡ answer_of (outcome_by a) → HostVerifiedUnder s l b list list' v v' w w' r
+hosted-under s l c b list list' v v' w w' a r q h e = subst (λ (d : FlowBudget). HostVerifiedUnder s l d list list' v v' w w' r) q (record {
+  answer = e ∙ ap answer_of h.verified.answer;
+  table = λ o. (λ due. e ∙ ap answer_of ((h.verified.table o).0 due), λ p. (h.verified.table o).1 (answer-one (outcome_by a) o (sym e ∙ p)));
+  verified = subst (λ (o : Outcome). Verified s (parameter_in (parts_of s)) l (lengths_of list v w) c o v' w') h.verified.answer h.verified;
+  blocks = h.blocks ∙ ap (blocks_after s (lengths_of list v w)) h.verified.answer;
+})
+
+pub hosted-within : (s : List ℕ) (l : HostLimits) (k : Limits) (c b : FlowBudget) (list list' : List Block) (v v' w w' : List ℕ) (a : AnswerWithin)
+    (r : FlowAnswerWithin) → c ≡ b → k ≡ limits_of l → BlocksVerifiedWithin s k c list list' v v' w w' a → r ≡ answer_within_of a
+    → HostVerifiedWithin s l b list list' v v' w w' r
+hosted-within s l k c b list list' v v' w w' a r q p h e = record {
+  verified = hosted-under s (counted (limits_of l)) c b list list' v v' w w' a.answer r.answer q
+      (subst (λ (m : Limits). BlocksVerifiedUnder s (counted m) c list list' v v' w w' a.answer) p h.verified) (ap (λ (z : FlowAnswerWithin). z.answer) e);
+  limits = ap (λ (z : FlowAnswerWithin). z.limits) e ∙ ap host_limits_of (h.limits ∙ p);
+}
+
+-- ---- with an added set
+
+pub hosted-with : (s added : List ℕ) (l : HostLimits) (k : Limits) (c b : FlowBudget) (list list' : List Block) (v v' w w' : List ℕ) (a : AnswerWithin)
+    (r : FlowAnswerWithin) → c ≡ b → k ≡ limits_of l → BlocksVerifiedWith s added k c list list' v v' w w' a → r ≡ answer_within_of a
+    → HostVerifiedWith s added l b list list' v v' w w' r
+hosted-with s added l k c b list list' v v' w w' a r q p g e =
+    let is : r.answer ≡ answer_of (outcome_by a.answer) = ap (λ (z : FlowAnswerWithin). z.answer) e in
+    let h : BlocksVerifiedWith s added (limits_of l) c list list' v v' w w' a =
+    subst (λ (m : Limits). BlocksVerifiedWith s added m c list list' v v' w w' a) p g in
+    subst (λ (d : FlowBudget). HostVerifiedWith s added l d list list' v v' w w' r) q (record {
+      answer = is ∙ ap answer_of h.verified.answer;
+      table = λ o. (λ due. is ∙ ap answer_of ((h.verified.table o).0 due), λ p. (h.verified.table o).1 (answer-one (outcome_by a.answer) o (sym is ∙ p)));
+      verified = subst (λ (o : Outcome). VerifiedWith s added (counted (limits_of l)) (lengths_of list v w) c o v' w') h.verified.answer h.verified;
+      blocks = h.blocks ∙ ap (blocks_after s (lengths_of list v w)) h.verified.answer;
+      limits = ap (λ (z : FlowAnswerWithin). z.limits) e ∙ ap host_limits_of h.limits;
+    })

@@ -1,3 +1,5 @@
--- Laws of the exported call.
+-- Laws of the exported calls.
 pub mod HostLaws
 pub mod LoadLaws
+pub mod WithinLaws
+pub mod WithLaws

@@ -34,7 +34,8 @@ use Rattle.load.specs.declared.Loaded.TheVariants.{Is, Refused}
 use Rattle.load.specs.Load.{words_needed, saturated, load_of, loaded_by, loaded_of}
 use Rattle.flow_c.specs.declared.FlowAnswer.{FlowAnswer}
 use Rattle.flow_c.specs.declared.LoadAnswer.{LoadAnswer}
-use Rattle.flow_c.specs.Exports.{answer_of, defined_outcome, HostVerified, load_answer_of, host_load}
+use Rattle.flow_c.specs.Exports.{answer_of, HostVerified, load_answer_of, host_load}
+use Rattle.flow_c.specs.Within.{outcome_under, HostVerifiedUnder}
 use Rattle.flow_c.proofs.HostLaws.{number_some}
 
 module _ (s : List ℕ) (parameter : ℕ → Bool) (l : Limits) (n : Lengths) (b : FlowBudget) where
@@ -86,20 +87,28 @@ module _ (s : List ℕ) (parameter : ℕ → Bool) (l : Limits) (n : Lengths) (b
       ap (λ (o : Option Refusal). loaded_by o s v blocks awaits) r.0
       ∙ ap₂ (λ (c : Bool) (i : ℕ). pick c (Refused NoRoom i) (Is i (saturated (load_of (parts_of s) v blocks awaits)))) t (sym r.1)
 
--- so of the two exported calls, one after the other: number 0, the same function id, and the load
-pub host-loads : {s : List ℕ} {b : FlowBudget} {list list' : List Block} {v v' w w' : List ℕ} {r : FlowAnswer}
-    → HostVerified s b list list' v v' w w' r → r.number ≡ 0 → length v ≤ length v'
+-- so of two exported calls, one after the other, under any limits as they count
+pub host-loads-under : {s : List ℕ} {l : Limits} {b : FlowBudget} {list list' : List Block} {v v' w w' : List ℕ} {r : FlowAnswer}
+    → HostVerifiedUnder s l b list list' v v' w w' r → r.number ≡ 0 → length v ≤ length v'
     → host_load s v' r.blocks r.awaits ≡ record { number = 0; function = r.function; load = saturated (load_of (parts_of s) v' r.blocks r.awaits) }
-host-loads {s} {b} {list} {list'} {v} {v'} {w} {w'} {r} h zero_number long = go (defined_outcome s b list v w) refl h.answer
+host-loads-under {s} {l} {b} {list} {list'} {v} {v'} {w} {w'} {r} h zero_number long = go (outcome_under s l b list v w) refl h.answer
   where
-    go : (o : Outcome) → defined_outcome s b list v w ≡ o → r ≡ answer_of o
+    go : (o : Outcome) → outcome_under s l b list v w ≡ o → r ≡ answer_of o
         → host_load s v' r.blocks r.awaits ≡ record { number = 0; function = r.function; load = saturated (load_of (parts_of s) v' r.blocks r.awaits) }
     go (accepted id blocks awaits left) e q =
         ap₂ (λ (i j : ℕ). host_load s v' i j) (ap (λ (f : FlowAnswer). f.blocks) q) (ap (λ (f : FlowAnswer). f.awaits) q)
-        ∙ ap load_answer_of (accepted_loads s (parameter_in (parts_of s)) todays (lengths_of list v w) b e v' long)
+        ∙ ap load_answer_of (accepted_loads s (parameter_in (parts_of s)) l (lengths_of list v w) b e v' long)
         ∙ sym (ap (λ (f : FlowAnswer). load_of_answer f) q)
       where
         load_of_answer : FlowAnswer → LoadAnswer
         load_of_answer f = record { number = 0; function = f.function; load = saturated (load_of (parts_of s) v' f.blocks f.awaits) }
     go (refused why id left) e q =
         absurd (omega (arith, number_some why, ap (λ (f : FlowAnswer). f.number) q))
+
+-- so of the two exported calls, one after the other: number 0, the same function id, and the load
+pub host-loads : {s : List ℕ} {b : FlowBudget} {list list' : List Block} {v v' w w' : List ℕ} {r : FlowAnswer}
+    → HostVerified s b list list' v v' w w' r → r.number ≡ 0 → length v ≤ length v'
+    → host_load s v' r.blocks r.awaits ≡ record { number = 0; function = r.function; load = saturated (load_of (parts_of s) v' r.blocks r.awaits) }
+host-loads {s} {b} {list} {list'} {v} {v'} {w} {w'} {r} h =
+    let u : HostVerifiedUnder s todays b list list' v v' w w' r = record { answer = h.answer; table = h.table; verified = h.verified; blocks = h.blocks } in
+    host-loads-under u

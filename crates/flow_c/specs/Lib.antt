@@ -1,2 +1,4 @@
--- The call for hosts.
+-- The calls for hosts.
 pub mod Exports
+pub mod Within
+pub mod With

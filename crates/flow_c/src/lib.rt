@@ -1,13 +1,15 @@
-// The call for hosts in C and Rust.
+// The calls for hosts in C and Rust.
 #![tactic(auto)]
 
 ghost use Rattle.std.specs.Prelude.{◌≡◌};
 ghost use Rattle.answers.specs.Answers.{outcome_by};
 ghost use Rattle.flow_c.specs.Exports.{budget_of, answer_of, HostVerified, load_answer_of, host_load};
+ghost use Rattle.flow_c.specs.Within.{limits_of, answer_within_of, HostVerifiedWithin};
+ghost use Rattle.flow_c.specs.With.{HostVerifiedWith};
 
-use answers::Answer;
+use answers::{Answer, AnswerWithin};
 use block_records::Block;
-use budget::FlowBudget;
+use budget::{FlowBudget, Limits};
 use load::Loaded;
 
 // Work charged and bytes retained so far.
@@ -113,6 +115,85 @@ fn load_answer_of(a: Loaded) -> LoadAnswer
             number: r.number() as u32,
             function: id,
             load: 0,
+        },
+    }
+}
+
+// What work, state and retained facts may not exceed.
+#[repr(C)]
+#[derive(Clone, Copy)]
+pub struct HostLimits {
+    pub work: u64,
+    pub state: u64,
+    pub facts: u64,
+}
+
+// An answer with the limits as they were given.
+#[repr(C)]
+#[derive(Clone, Copy)]
+pub struct FlowAnswerWithin {
+    pub answer: FlowAnswer,
+    pub limits: HostLimits,
+}
+
+// As `kagari_flow_verify` with these limits, each of which counts as at most today's: as `verify_within` of crate flow_blocks.
+#[unsafe(no_mangle)]
+pub extern "C" fn kagari_flow_verify_within(
+    sheet: &[u8],
+    budget: HostBudget,
+    limits: HostLimits,
+    blocks: &mut [Block],
+    sets: &mut [u64],
+    scratch: &mut [u64],
+) -> FlowAnswerWithin
+    ensures { HostVerifiedWithin sheet.now limits (budget_of budget) blocks.old blocks.new sets.old sets.new scratch.old scratch.new result }
+{
+    let b = budget_of(budget);
+    let l = limits_of(limits);
+    let a = flow_blocks::verify_within(sheet, b, l, blocks, sets, scratch);
+    answer_within_of(a)
+}
+
+// The same with an added set of parameters: as `verify_with` of crate flow_blocks.
+#[unsafe(no_mangle)]
+pub extern "C" fn kagari_flow_verify_with(
+    sheet: &[u8],
+    added: &[u64],
+    budget: HostBudget,
+    limits: HostLimits,
+    blocks: &mut [Block],
+    sets: &mut [u64],
+    scratch: &mut [u64],
+) -> FlowAnswerWithin
+    ensures { HostVerifiedWith sheet.now added.now limits (budget_of budget) blocks.old blocks.new sets.old sets.new scratch.old scratch.new result }
+{
+    let b = budget_of(budget);
+    let l = limits_of(limits);
+    let a = flow_blocks::verify_with(sheet, added, b, l, blocks, sets, scratch);
+    answer_within_of(a)
+}
+
+fn limits_of(l: HostLimits) -> Limits
+    ensures { result ≡ limits_of l }
+{
+    Limits {
+        work: l.work,
+        state: l.state,
+        facts: l.facts,
+    }
+}
+
+fn answer_within_of(a: AnswerWithin) -> FlowAnswerWithin
+    ensures { result ≡ answer_within_of a }
+{
+    let given = a.limits;
+    let answer = answer_of(a.answer);
+    FlowAnswerWithin {
+        answer: answer,
+        limits: HostLimits {
+            work: given.work,
+            state: given.state,
+            facts: given.facts,
         },
     }
 }

@@ -1,7 +1,7 @@
-// A call of `verify` on lent words that hold garbage.
+// A call of `verify` or of `verify_within` on lent words that hold garbage.
 use crate::print;
 use crate::text::Request;
-use budget::FlowBudget;
+use budget::{FlowBudget, Limits};
 use std::io;
 
 // Answers a request: at most 64 block records, 512 words of sets and 8,192 words of scratch.
@@ -47,6 +47,18 @@ fn lend(
         work: request.work,
         retained: request.retained,
     };
+    if request.within {
+        return run_within(
+            rt,
+            name,
+            sheet,
+            budget,
+            request.limits,
+            &mut blocks[0..words],
+            &mut sets[0..b],
+            &mut scratch[0..c],
+        );
+    }
     run(
         rt,
         name,
@@ -73,6 +85,28 @@ pub fn run(
     garble(scratch);
     let a = flow::verify(sheet, budget, blocks, sets, scratch);
     print::answer(rt, name, a)?;
+    print::words(rt, blocks)?;
+    print::words(rt, sets)?;
+    print::end(rt, scratch)
+}
+
+// The same with limits.
+fn run_within(
+    rt: &impl Print,
+    name: &[u8],
+    sheet: &[u8],
+    budget: FlowBudget,
+    limits: Limits,
+    blocks: &mut [u64],
+    sets: &mut [u64],
+    scratch: &mut [u64],
+) -> io::Result<()> {
+    garble(blocks);
+    garble(sets);
+    garble(scratch);
+    let a = flow::verify_within(sheet, budget, limits, blocks, sets, scratch);
+    print::answer(rt, name, a.answer)?;
+    print::limits(rt, a.limits)?;
     print::words(rt, blocks)?;
     print::words(rt, sets)?;
     print::end(rt, scratch)

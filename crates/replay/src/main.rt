@@ -2,6 +2,8 @@
 //
 // A line is `NAME WORK RETAINED RECORDS SETS SCRATCH HEX`: the budget, how many block records, words of sets and words of scratch are lent, and
 // the sheet in hexadecimal, `.` for none. The lent words hold garbage before the call. `n-built BLOCKS` has case n's sheet built here.
+// `within: NAME WORK RETAINED WORK-LIMIT STATE-LIMIT FACTS-LIMIT RECORDS SETS SCRATCH HEX` is a call of `verify_within`, with its limits behind the budget;
+// its answer has the limits as they come back, behind the budget too.
 // Lines that begin with `#` and empty lines are skipped. The answer is
 // `NAME NUMBER ID BLOCKS AWAITS WORK RETAINED | block words | set words | words of scratch that are not zero`, the words in hexadecimal; or
 // `NAME ?` where the line cannot be read or asks for more than there is, `? ?` where it has no name.
@@ -75,6 +77,10 @@ fn answer_line(rt: &impl Print, line: &[u8]) -> io::Result<()> {
     if line[0] == b'#' {
         return Ok(());
     }
+    let from = text::within_end(line);
+    if from > 0 {
+        return answer_within(rt, &line[from..]);
+    }
     let n = text::name_end(line);
     if n == 0 {
         return print::unread(rt, b"?");
@@ -83,7 +89,16 @@ fn answer_line(rt: &impl Print, line: &[u8]) -> io::Result<()> {
     if built::is_asked(name) {
         return answer_built(rt, name, line, n);
     }
-    answer_call(rt, name, line, n)
+    answer_call(rt, name, line, n, false)
+}
+
+// What follows `within: `.
+fn answer_within(rt: &impl Print, line: &[u8]) -> io::Result<()> {
+    let n = text::name_end(line);
+    if n == 0 {
+        return print::unread(rt, b"?");
+    }
+    answer_call(rt, &line[0..n], line, n, true)
 }
 
 // `n-built BLOCKS`: a number and nothing after it.
@@ -97,9 +112,15 @@ fn answer_built(rt: &impl Print, name: &[u8], line: &[u8], from: usize) -> io::R
     built::answer(rt, name, blocks as usize)
 }
 
-// A call: five numbers and the sheet.
-fn answer_call(rt: &impl Print, name: &[u8], line: &[u8], from: usize) -> io::Result<()> {
-    let Asked::Call(request, at) = text::numbers(line, from) else {
+// A call: numbers and the sheet.
+fn answer_call(
+    rt: &impl Print,
+    name: &[u8],
+    line: &[u8],
+    from: usize,
+    within: bool,
+) -> io::Result<()> {
+    let Asked::Call(request, at) = text::numbers(line, from, within) else {
         return print::unread(rt, name);
     };
     let mut sheet = [0u8; 4096];

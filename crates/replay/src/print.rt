@@ -2,7 +2,7 @@
 ghost use Rattle.std.specs.Prelude.{◌≤◌, length};
 
 use answers::Answer;
-use budget::FlowBudget;
+use budget::{FlowBudget, Limits};
 use std::io;
 
 // A line that was not read.
@@ -36,6 +36,13 @@ fn numbers(
     decimal(rt, awaits as u64)?;
     decimal(rt, budget.work)?;
     decimal(rt, budget.retained)
+}
+
+// The limits as they come back.
+pub fn limits(rt: &impl Print, l: Limits) -> io::Result<()> {
+    decimal(rt, l.work)?;
+    decimal(rt, l.state)?;
+    decimal(rt, l.facts)
 }
 
 fn decimal(rt: &impl Print, n: u64) -> io::Result<()> {

@@ -1,6 +1,8 @@
 // Reading a line: functions of a text and a position, at any position. Past the end there is nothing.
 ghost use Rattle.std.specs.Prelude.{◌≡◌, ◌+◌, ◌≤◌, length};
 
+use budget::Limits;
+
 // More bytes than any buffer has: the sheet was not read.
 const UNREAD: usize = 18446744073709551615;
 
@@ -11,11 +13,20 @@ pub enum Parsed {
     Nothing,
 }
 
-// What a line asks for beside its sheet.
+// Three numbers and where they end.
+#[derive(Clone, Copy)]
+pub enum Three {
+    Numbers(u64, u64, u64, usize),
+    Nothing,
+}
+
+// What a line asks for beside its sheet. `within` says whether the line hands limits in.
 #[derive(Clone, Copy)]
 pub struct Request {
     pub work: u64,
     pub retained: u64,
+    pub within: bool,
+    pub limits: Limits,
     pub records: usize,
     pub sets: usize,
     pub scratch: usize,
@@ -132,32 +143,88 @@ fn wide(b: u8) -> u64
     b as u64
 }
 
-// The five numbers after a name.
-pub fn numbers(line: &[u8], from: usize) -> Asked {
+// Where what follows the first word `within:` begins, or 0 where that is not the first word. It can be no name.
+pub fn within_end(line: &[u8]) -> usize
+    ensures { result ≤ length line.now }
+{
+    let due = b"within: ";
+    if line.len() < 8 {
+        return 0;
+    }
+    let mut i = 0;
+    while i < 8 {
+        if line[i] != due[i] {
+            return 0;
+        }
+        i += 1;
+    }
+    8
+}
+
+// Three decimal numbers, each after a blank.
+fn three_numbers(line: &[u8], from: usize) -> Three {
+    let Parsed::Number(a, i) = field(line, from) else {
+        return Three::Nothing;
+    };
+    let Parsed::Number(b, j) = field(line, i) else {
+        return Three::Nothing;
+    };
+    let Parsed::Number(c, k) = field(line, j) else {
+        return Three::Nothing;
+    };
+    Three::Numbers(a, b, c, k)
+}
+
+// The numbers after a name: the budget, the limits if they are handed in, the lengths.
+pub fn numbers(line: &[u8], from: usize, within: bool) -> Asked {
     let Parsed::Number(work, a) = field(line, from) else {
         return Asked::Unread;
     };
     let Parsed::Number(retained, b) = field(line, a) else {
         return Asked::Unread;
     };
-    let Parsed::Number(records, c) = field(line, b) else {
+    if within {
+        return limits(line, b, work, retained);
+    }
+    lengths(line, b, work, retained, false, Limits::todays())
+}
+
+// The three limits, and then the lengths.
+fn limits(line: &[u8], from: usize, work: u64, retained: u64) -> Asked {
+    let Three::Numbers(most_work, state, facts, at) = three_numbers(line, from) else {
         return Asked::Unread;
     };
-    let Parsed::Number(sets, d) = field(line, c) else {
-        return Asked::Unread;
+    let l = Limits {
+        work: most_work,
+        state: state,
+        facts: facts,
     };
-    let Parsed::Number(scratch, e) = field(line, d) else {
+    lengths(line, at, work, retained, true, l)
+}
+
+// The three lengths.
+fn lengths(
+    line: &[u8],
+    from: usize,
+    work: u64,
+    retained: u64,
+    within: bool,
+    limits: Limits,
+) -> Asked {
+    let Three::Numbers(records, sets, scratch, at) = three_numbers(line, from) else {
         return Asked::Unread;
     };
     Asked::Call(
         Request {
             work: work,
             retained: retained,
+            within: within,
+            limits: limits,
             records: records as usize,
             sets: sets as usize,
             scratch: scratch as usize,
         },
-        e,
+        at,
     )
 }
 

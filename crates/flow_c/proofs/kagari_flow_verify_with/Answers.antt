@@ -1,0 +1,6 @@
+-- `flow_c::kagari_flow_verify_with` meets its contract. Assumes nothing.
+use Rattle.flow_c.proofs.HostLaws.{hosted-with}
+use Rattle.flow_c.proofs.kagari_flow_verify_with.Goals as goal
+
+pub returns : goal.returns
+returns c = hosted-with _ _ _ _ _ _ _ _ _ _ _ _ _ _ c.budget_of-b.ensures c.limits_of-l.ensures c.verify_with-a.ensures c.answer_within_of.ensures
