@@ -1,17 +1,23 @@
 //! Checks one sheet: reads it in hexadecimal, prints the answer, the blocks, the slots that
-//! each await saves, and their load. The budget is zero unless it is given.
+//! each await saves, and their load. The budget is zero, and the limits are the highest,
+//! unless they are given. Slots that are given are parameters beside those that the sheet
+//! names.
 //!
-//!     check FILE [WORK RETAINED]
+//!     check FILE [WORK RETAINED [MOST_WORK MOST_STATE MOST_FACTS [SLOT ..]]]
 //!
 //! Ends with 0 if the script is accepted, 1 if it is refused, 2 if it can't be read.
 
 mod text;
 
-use kagari_flow::{Accepted, Block, Budget, verify};
+use kagari_flow::{
+    Accepted, Block, Budget, Limits, slot_words, verify, verify_with, verify_within,
+};
 use std::env;
 use std::fs;
 use std::io::{self, Write};
 use std::process::ExitCode;
+
+const USAGE: &str = "usage: check FILE [WORK RETAINED [MOST_WORK MOST_STATE MOST_FACTS [SLOT ..]]]";
 
 fn main() -> ExitCode {
     let arguments: Vec<String> = env::args().skip(1).collect();
@@ -27,18 +33,39 @@ fn main() -> ExitCode {
 
 /// Whether the script is accepted, or why it can't be read.
 fn run(arguments: &[String]) -> Result<bool, String> {
-    let (file, budget) = match arguments {
-        [file] => (file, Budget::default()),
-        [file, work, retained] => {
-            let (work, retained) = (number(work)?, number(retained)?);
-            (file, Budget { work, retained })
+    let Some((file, numbers)) = arguments.split_first() else {
+        return Err(USAGE.into());
+    };
+    let numbers: Result<Vec<u64>, String> = numbers.iter().map(|digits| number(digits)).collect();
+    let numbers = numbers?;
+    let (budget, limits, slots) = match numbers[..] {
+        [] => (Budget::default(), None, &[][..]),
+        [work, retained] => (Budget { work, retained }, None, &[][..]),
+        [
+            work,
+            retained,
+            most_work,
+            most_state,
+            most_facts,
+            ref slots @ ..,
+        ] => {
+            let limits = Limits {
+                work: most_work,
+                state: most_state,
+                facts: most_facts,
+            };
+            (Budget { work, retained }, Some(limits), slots)
         }
-        _ => return Err("usage: check FILE [WORK RETAINED]".into()),
+        _ => return Err(USAGE.into()),
     };
     let text = fs::read_to_string(file).map_err(|error| format!("{file}: {error}"))?;
     let sheet = text::sheet(&text).map_err(|error| format!("{file}: {error}"))?;
 
-    let result = verify(&sheet, budget);
+    let result = match limits {
+        None => verify(&sheet, budget),
+        Some(limits) if slots.is_empty() => verify_within(&sheet, budget, limits),
+        Some(limits) => verify_with(&sheet, &added(&sheet, slots)?, budget, limits),
+    };
     let mut lines = vec![text::answer(&result)];
     if let Ok(accepted) = &result {
         lines.extend(facts(accepted));
@@ -53,6 +80,19 @@ fn run(arguments: &[String]) -> Result<bool, String> {
 fn number(digits: &str) -> Result<u64, String> {
     let number = digits.parse();
     number.map_err(|error| format!("{digits}: {error}"))
+}
+
+/// The words of a set of these slots. How many the script has is the number at byte 8 of its
+/// sheet; one with more than 65,536 is refused whatever the set is.
+fn added(sheet: &[u8], slots: &[u64]) -> Result<Vec<u64>, String> {
+    let count = sheet.get(8..).and_then(<[u8]>::first_chunk);
+    let count = count.map_or(0, |&bytes| u32::from_le_bytes(bytes).min(65_536));
+    let slots = slots.iter().map(|&slot| match u32::try_from(slot) {
+        Ok(slot) if slot < count => Ok(slot),
+        _ => Err(format!("{slot}: there is no such slot")),
+    });
+    let slots: Vec<u32> = slots.collect::<Result<_, _>>()?;
+    Ok(slot_words(count, slots))
 }
 
 /// A line for each block, then one for each await.

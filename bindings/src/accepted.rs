@@ -1,9 +1,9 @@
 //! The answer on a script that is accepted.
 
 use crate::raw::{self, Answer};
-use crate::{Block, Budget, Buffers, Number};
+use crate::slots::words;
+use crate::{Block, Budget, Buffers, Number, Slots};
 use std::borrow::Cow;
-use std::fmt;
 
 /// A script was accepted: its blocks, their sets, and what each await saves.
 ///
@@ -114,16 +114,8 @@ impl<'m> Accepted<'m> {
     }
 
     fn slots_in<'a>(&self, words: &'a [u64]) -> Slots<'a> {
-        Slots {
-            words,
-            count: self.slots,
-        }
+        Slots::new(words, self.slots)
     }
-}
-
-/// The words of a set of slots.
-fn words(slots: u32) -> usize {
-    (slots as usize).div_ceil(64)
 }
 
 /// An await that a path reaches.
@@ -134,35 +126,4 @@ pub struct Await<'a> {
     /// The slots that are saved there: the least set with which every path that begins at
     /// the await reads only what was saved or written since.
     pub slots: Slots<'a>,
-}
-
-/// A set of slots.
-#[derive(Clone, Copy, PartialEq, Eq)]
-pub struct Slots<'a> {
-    words: &'a [u64],
-    count: u32,
-}
-
-impl<'a> Slots<'a> {
-    /// Whether a slot of the script is in the set.
-    pub fn contains(self, slot: u32) -> bool {
-        slot < self.count && self.words[slot as usize / 64] >> (slot % 64) & 1 == 1
-    }
-
-    /// The slots in the set, ascending.
-    pub fn iter(self) -> impl Iterator<Item = u32> + 'a {
-        (0..self.count).filter(move |&slot| self.contains(slot))
-    }
-
-    /// The set as it lies in memory: slot s is bit s % 64 of word s / 64. The first set of
-    /// a block that no path reaches has bits above the script's slots too.
-    pub fn words(self) -> &'a [u64] {
-        self.words
-    }
-}
-
-impl fmt::Debug for Slots<'_> {
-    fn fmt(&self, f: &mut fmt::Formatter<'_>) -> fmt::Result {
-        f.debug_set().entries(self.iter()).finish()
-    }
 }

@@ -5,8 +5,10 @@
 #[repr(C)]
 #[derive(Debug, Clone, Copy, PartialEq, Eq, Default)]
 pub struct Budget {
-    /// Steps of work. Above 100,000,000 a script is refused.
+    /// Steps of work. Above the limit, [`Limits::work`](crate::Limits::work) or 100,000,000,
+    /// a script is refused.
     pub work: u64,
-    /// Bytes of await facts. If an await leaves more than 67,108,864 its script is refused.
+    /// Bytes of await facts. If an await leaves more than the limit,
+    /// [`Limits::facts`](crate::Limits::facts) or 67,108,864, its script is refused.
     pub retained: u64,
 }

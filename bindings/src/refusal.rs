@@ -12,7 +12,8 @@ pub struct Refusal {
     /// The function's id; 0 if the function record itself is refused with 1, 2 or 3.
     pub function: u32,
     /// The budget: as given after 1 to 9 and 17, and after 10 if scratch is shorter than
-    /// four words an instruction; else as charged, with the sum that crossed a limit.
+    /// four words an instruction, or an added set than it has to be; else as charged, with
+    /// the sum that crossed a limit.
     pub budget: Budget,
 }
 
@@ -49,23 +50,26 @@ pub enum Number {
     TooMany,
     /// There is no instruction.
     NoCode,
-    /// A slot number is at or above the slot count.
+    /// A slot number, or a bit of an added set, is at or above the slot count.
     NoSuchSlot,
     /// A target is at or above the instruction count.
     NoSuchTarget,
     /// The last instruction lets control run past the end.
     OpenEnd,
-    /// A lent slice is too short.
+    /// A lent slice or an added set is too short.
     NoRoom,
-    /// Blocks times slots is too much for the check's state.
+    /// Blocks times slots is too much for the check's state: it would take more than
+    /// 67,108,864 bytes, or than a lower [`Limits::state`](crate::Limits::state).
     StateLimit,
-    /// The check would take more than 100,000,000 steps.
+    /// The check would take more than 100,000,000 steps, or than a lower
+    /// [`Limits::work`](crate::Limits::work).
     WorkLimit,
     /// Some path reads a slot that is no parameter and was not written before.
     UnfilledSlot,
     /// A host handle would be saved over an await.
     HostOverAwait,
-    /// The await facts would retain more than 67,108,864 bytes.
+    /// The await facts would retain more than 67,108,864 bytes, or than a lower
+    /// [`Limits::facts`](crate::Limits::facts).
     FactsLimit,
     /// The parameter record names a slot twice.
     ParameterTwice = 17,

@@ -1,16 +1,20 @@
 //! How long lent memory must be. Nothing here is proved: a mistake could only give
 //! refusal 10, or lend more than is needed.
 
+use crate::Limits;
+
 /// The most slots, and the most instructions; a sheet with more is refused.
 const MOST: u32 = 65_536;
 
-/// The most bytes of state; a script that needs more is refused.
-const STATE_LIMIT: usize = 67_108_864;
+/// The most bytes of state; a script that needs more is refused. Under a lower limit fewer
+/// blocks are left, so that lengths by this one are always enough.
+const STATE_LIMIT: usize = Limits::MOST_STATE as usize;
 
 /// The kind of an await instruction.
 const AWAIT: u16 = 1;
 
-/// Lengths of lent memory, in records and words.
+/// Lengths of lent memory, in records and words. They are enough whatever the
+/// [`Limits`] are, and whatever slots are added to the parameters.
 #[derive(Debug, Clone, Copy, PartialEq, Eq, Default)]
 pub struct Sizes {
     /// Block records.
@@ -22,7 +26,7 @@ pub struct Sizes {
 }
 
 impl Sizes {
-    /// No room at all: enough for the refusals 1 to 9 and 17.
+    /// No room at all: enough for the refusals 1 to 9 and 17 of a sheet.
     pub const NONE: Self = Self {
         blocks: 0,
         sets: 0,

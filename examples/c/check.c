@@ -1,8 +1,9 @@
 /*
  * Checks one sheet: reads it in hexadecimal, prints the answer, the blocks, the slots that each await
- * saves, and their load. The budget is zero unless it is given.
+ * saves, and their load. The budget is zero, and the limits are the highest, unless they are given.
+ * Slots that are given are parameters beside those that the sheet names.
  *
- *     check FILE [WORK RETAINED]
+ *     check FILE [WORK RETAINED [MOST_WORK MOST_STATE MOST_FACTS [SLOT ..]]]
  *
  * Ends with 0 if the script is accepted, 1 if it is refused, 2 if it can't be read.
  */
@@ -149,6 +150,37 @@ static struct buffers lend(struct counts counts)
     return lent;
 }
 
+/* A set of slots. */
+struct set {
+    uint64_t *words;
+    size_t length;
+};
+
+/* What a call is handed beside a sheet and buffers. No limits, and no added slots, are null. */
+struct terms {
+    kagari_flow_budget budget;
+    const kagari_flow_limits *limits;
+    const struct set *added;
+};
+
+static kagari_flow_answer judge(struct sheet sheet, struct terms terms, const struct buffers *lent)
+{
+    if (terms.limits == NULL)
+        return kagari_flow_verify(sheet.bytes, sheet.length, terms.budget, lent->blocks,
+                                  lent->blocks_len, lent->sets, lent->sets_len, lent->scratch,
+                                  lent->scratch_len);
+    if (terms.added == NULL)
+        return kagari_flow_verify_within(sheet.bytes, sheet.length, terms.budget, *terms.limits,
+                                         lent->blocks, lent->blocks_len, lent->sets,
+                                         lent->sets_len, lent->scratch, lent->scratch_len)
+            .answer;
+    return kagari_flow_verify_with(sheet.bytes, sheet.length, terms.added->words,
+                                   terms.added->length, terms.budget, *terms.limits, lent->blocks,
+                                   lent->blocks_len, lent->sets, lent->sets_len, lent->scratch,
+                                   lent->scratch_len)
+        .answer;
+}
+
 static const char *name_of(uint32_t number)
 {
     static const char *const names[] = {
@@ -226,22 +258,46 @@ static uint64_t number(const char *digits)
     return value;
 }
 
+/* The set of these slots, of which the script has so many. */
+static struct set set_of(char **slots, int length, uint32_t count)
+{
+    struct set set = {allocate(KAGARI_FLOW_WORDS(count), sizeof *set.words),
+                      KAGARI_FLOW_WORDS(count)};
+    for (int i = 0; i < length; i++) {
+        uint64_t slot = number(slots[i]);
+        if (slot >= count)
+            fail(slots[i], "there is no such slot");
+        set.words[slot / 64] |= (uint64_t)1 << slot % 64;
+    }
+    return set;
+}
+
 int main(int argc, char **argv)
 {
-    if (argc != 2 && argc != 4)
-        fail("usage", "check FILE [WORK RETAINED]");
-    kagari_flow_budget budget = {0, 0};
-    if (argc == 4) {
-        budget.work = number(argv[2]);
-        budget.retained = number(argv[3]);
+    if (argc != 2 && argc != 4 && argc < 7)
+        fail("usage", "check FILE [WORK RETAINED [MOST_WORK MOST_STATE MOST_FACTS [SLOT ..]]]");
+    struct terms terms = {{0, 0}, NULL, NULL};
+    if (argc >= 4) {
+        terms.budget.work = number(argv[2]);
+        terms.budget.retained = number(argv[3]);
+    }
+    kagari_flow_limits limits;
+    if (argc >= 7) {
+        limits.work = number(argv[4]);
+        limits.state = number(argv[5]);
+        limits.facts = number(argv[6]);
+        terms.limits = &limits;
     }
 
     struct sheet sheet = read_sheet(argv[1]);
     struct counts counts = count(sheet);
+    struct set added = {NULL, 0};
+    if (argc > 7) {
+        added = set_of(argv + 7, argc - 7, counts.slots);
+        terms.added = &added;
+    }
     struct buffers lent = lend(counts);
-    kagari_flow_answer answer =
-        kagari_flow_verify(sheet.bytes, sheet.length, budget, lent.blocks, lent.blocks_len,
-                           lent.sets, lent.sets_len, lent.scratch, lent.scratch_len);
+    kagari_flow_answer answer = judge(sheet, terms, &lent);
     print_answer(&answer);
     if (answer.number == KAGARI_FLOW_ACCEPTED) {
         print_facts(&answer, &lent, counts.slots);
@@ -251,6 +307,7 @@ int main(int argc, char **argv)
     free(lent.scratch);
     free(lent.sets);
     free(lent.blocks);
+    free(added.words);
     free(sheet.bytes);
     return answer.number == KAGARI_FLOW_ACCEPTED ? ACCEPTED : REFUSED;
 }

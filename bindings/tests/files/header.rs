@@ -1,8 +1,8 @@
-//! `include/kagari_flow.h`: the constants are the rows of the table, and the version is that of
-//! this crate and of the changelog.
+//! `include/kagari_flow.h`: the constants are the rows of the table, the limits those of this
+//! crate, and the version is that of this crate and of the changelog.
 
 use crate::read;
-use kagari_flow::{Number, VERSION};
+use kagari_flow::{Limits, Number, VERSION};
 
 /// The constants of the header, with their numbers.
 fn constants() -> Vec<(String, u32)> {
@@ -26,6 +26,15 @@ fn the_constants_are_the_rows_of_the_table() {
     let accepted = ("ACCEPTED".to_owned(), 0);
     let expected: Vec<(String, u32)> = [accepted].into_iter().chain(rows).collect();
     assert_eq!(constants(), expected);
+}
+
+#[test]
+fn header_and_crate_have_the_same_limits() {
+    let header = read("include/kagari_flow.h");
+    let Limits { work, state, facts } = Limits::MOST;
+    for (name, limit) in [("WORK", work), ("STATE", state), ("FACTS", facts)] {
+        assert!(header.contains(&format!("#define KAGARI_FLOW_MOST_{name} {limit}\n")));
+    }
 }
 
 #[test]

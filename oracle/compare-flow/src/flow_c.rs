@@ -1,5 +1,6 @@
 //! The flow check of the port, from the static library `flow_c`.
 
+use crate::limits::Limits;
 use kagari_oracle::Budget;
 
 /// One record of the block list.
@@ -38,6 +39,16 @@ pub struct Answer {
     pub retained: u64,
 }
 
+/// What the call answers within limits.
+#[repr(C)]
+#[derive(Debug, Clone, Copy, PartialEq, Eq)]
+pub struct AnswerWithin {
+    /// The answer.
+    pub answer: Answer,
+    /// The limits, as given.
+    pub limits: Limits,
+}
+
 /// What the call for the load answers.
 #[repr(C)]
 #[derive(Debug, Clone, Copy, PartialEq, Eq, Default)]
@@ -57,6 +68,13 @@ struct BudgetC {
     retained: u64,
 }
 
+impl From<Budget> for BudgetC {
+    fn from(budget: Budget) -> Self {
+        let Budget { work, retained } = budget;
+        Self { work, retained }
+    }
+}
+
 // A slice is passed as its pointer and its length.
 unsafe extern "C" {
     fn kagari_flow_verify(
@@ -70,6 +88,34 @@ unsafe extern "C" {
         scratch: *mut u64,
         scratch_len: usize,
     ) -> Answer;
+
+    fn kagari_flow_verify_within(
+        sheet: *const u8,
+        sheet_len: usize,
+        budget: BudgetC,
+        limits: Limits,
+        blocks: *mut Block,
+        blocks_len: usize,
+        sets: *mut u64,
+        sets_len: usize,
+        scratch: *mut u64,
+        scratch_len: usize,
+    ) -> AnswerWithin;
+
+    fn kagari_flow_verify_with(
+        sheet: *const u8,
+        sheet_len: usize,
+        added: *const u64,
+        added_len: usize,
+        budget: BudgetC,
+        limits: Limits,
+        blocks: *mut Block,
+        blocks_len: usize,
+        sets: *mut u64,
+        sets_len: usize,
+        scratch: *mut u64,
+        scratch_len: usize,
+    ) -> AnswerWithin;
 
     fn kagari_flow_load(
         sheet: *const u8,
@@ -89,10 +135,6 @@ pub fn verify(
     sets: &mut [u64],
     scratch: &mut [u64],
 ) -> Answer {
-    let budget = BudgetC {
-        work: budget.work,
-        retained: budget.retained,
-    };
     // SAFETY: each pointer and length are those of a slice that lives through the
     // call; the slices that are written to are lent exclusively, so none overlaps
     // another. Their elements are plain integers, for which every bit pattern is one.
@@ -100,7 +142,63 @@ pub fn verify(
         kagari_flow_verify(
             sheet.as_ptr(),
             sheet.len(),
-            budget,
+            budget.into(),
+            blocks.as_mut_ptr(),
+            blocks.len(),
+            sets.as_mut_ptr(),
+            sets.len(),
+            scratch.as_mut_ptr(),
+            scratch.len(),
+        )
+    }
+}
+
+/// Checks a sheet from a budget and within limits, with these lent buffers.
+pub fn verify_within(
+    sheet: &[u8],
+    budget: Budget,
+    limits: Limits,
+    blocks: &mut [Block],
+    sets: &mut [u64],
+    scratch: &mut [u64],
+) -> AnswerWithin {
+    // SAFETY: as in `verify`.
+    unsafe {
+        kagari_flow_verify_within(
+            sheet.as_ptr(),
+            sheet.len(),
+            budget.into(),
+            limits,
+            blocks.as_mut_ptr(),
+            blocks.len(),
+            sets.as_mut_ptr(),
+            sets.len(),
+            scratch.as_mut_ptr(),
+            scratch.len(),
+        )
+    }
+}
+
+/// Checks a sheet from a budget and within limits, with a set of slots as parameters beside
+/// its own, with these lent buffers.
+pub fn verify_with(
+    sheet: &[u8],
+    added: &[u64],
+    budget: Budget,
+    limits: Limits,
+    blocks: &mut [Block],
+    sets: &mut [u64],
+    scratch: &mut [u64],
+) -> AnswerWithin {
+    // SAFETY: as in `verify`; `added` is one more slice that is only read.
+    unsafe {
+        kagari_flow_verify_with(
+            sheet.as_ptr(),
+            sheet.len(),
+            added.as_ptr(),
+            added.len(),
+            budget.into(),
+            limits,
             blocks.as_mut_ptr(),
             blocks.len(),
             sets.as_mut_ptr(),

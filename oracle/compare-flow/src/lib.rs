@@ -1,18 +1,22 @@
 //! The comparison of the port's flow check with the Rust: the same answer, and the same
 //! contents of every lent buffer, on sheets that are drawn from seeds.
 
+pub mod added;
 pub mod answers;
 pub mod expected;
 pub mod flow_c;
 pub mod generate;
 pub mod lent;
+pub mod limits;
 pub mod load;
 pub mod plan;
 pub mod report;
+pub mod sets;
 mod shrink;
 
 use compare::random::Random;
 use expected::Known;
+use flow_c::Answer;
 use generate::{Family, any_family};
 use lent::Lent;
 use plan::Plan;
@@ -82,31 +86,61 @@ impl Comparison {
     }
 
     /// Compares the calls of one sheet, up to the first mismatch. After one, nothing
-    /// more is compared.
+    /// more is compared. A call without limits is made once more within some; of every
+    /// second sheet, the first or the last such call also with slots added to the parameters.
     pub fn compare(&mut self, sheet: &[u8], known: &Known, plans: &[Plan], found: impl Display) {
         if self.report.failure.is_some() {
             return;
         }
         self.report.sheets += 1;
-        for plan in plans {
-            let lengths = plan.lengths(known);
-            let checked = self
-                .lent
-                .check(sheet, known, plan.budget, lengths, plan.garbage);
-            match checked {
-                Ok(answer) => self.report.count(answer.number, sheet.len()),
-                Err(mismatch) => {
-                    let (small, plan, mismatch) =
-                        shrink::shrink(&mut self.lent, sheet, *plan, *mismatch);
-                    self.report.failure = Some(Box::new(Failure {
-                        found: found.to_string(),
-                        length: sheet.len(),
-                        sheet: small,
-                        plan,
-                        mismatch,
-                    }));
-                    return;
-                }
+        let mut called = Vec::new();
+        for &plan in plans {
+            let Some(answer) = self.call(sheet, known, plan, &found) else {
+                return;
+            };
+            if plan.limits.is_some() || plan.added.is_some() {
+                continue;
+            }
+            let within = plan.within(known, &answer);
+            if self.call(sheet, known, within, &found).is_none() {
+                return;
+            }
+            called.push((plan, answer));
+        }
+        let (Some(first), Some(last)) = (called.first(), called.last()) else {
+            return;
+        };
+        let mut random = Random::new(last.0.garbage);
+        if random.once_in(2) {
+            let (plan, answer) = random.pick(&[first, last]);
+            self.call(sheet, known, plan.with(known, answer), &found);
+        }
+    }
+
+    /// Makes a call and counts its answer, or notes its mismatch.
+    fn call(
+        &mut self,
+        sheet: &[u8],
+        known: &Known,
+        plan: Plan,
+        found: &impl Display,
+    ) -> Option<Answer> {
+        match self.lent.check(sheet, known, &plan) {
+            Ok(answer) => {
+                self.report.count(&plan, answer.number, sheet.len());
+                Some(answer)
+            }
+            Err(mismatch) => {
+                let (small, plan, mismatch) =
+                    shrink::shrink(&mut self.lent, sheet, plan, *mismatch);
+                self.report.failure = Some(Box::new(Failure {
+                    found: found.to_string(),
+                    length: sheet.len(),
+                    sheet: small,
+                    plan,
+                    mismatch,
+                }));
+                None
             }
         }
     }

@@ -2,6 +2,7 @@
 
 use crate::expected::{Known, NO_ROOM, Passed};
 use crate::flow_c::Load;
+use crate::sets::slots;
 
 /// What must come out of the call for the load, with any words and any numbers.
 pub fn expected(known: &Known, sets: &[u64], blocks: u64, awaits: u64) -> Load {
@@ -28,14 +29,6 @@ pub fn expected(known: &Known, sets: &[u64], blocks: u64, awaits: u64) -> Load {
 pub fn weight(passed: &Passed, set: &[u64]) -> u64 {
     let slots = slots(set).take_while(|&slot| slot < passed.slots);
     slots.filter(|&slot| passed.physical[slot] > 1).count() as u64
-}
-
-/// The slots of a set, ascending.
-fn slots(set: &[u64]) -> impl Iterator<Item = usize> {
-    set.iter().enumerate().flat_map(|(place, &word)| {
-        let bits = (0..64).filter(move |bit| word >> bit & 1 == 1);
-        bits.map(move |bit| 64 * place + bit)
-    })
 }
 
 fn refusal(number: u32, function: u32) -> Load {

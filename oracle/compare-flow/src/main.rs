@@ -9,8 +9,9 @@ use std::time::{Duration, Instant};
 const USAGE: &str = "usage: differential [--seed S] [--count N] [--from I]
 
 Compares the port's flow check with the Rust on N sheets (100,000) that are drawn from
-the seed S (1), beginning with sheet I (0). The exit status is 1 on a mismatch; then the
-smallest failing sheet is printed in hexadecimal.";
+the seed S (1), beginning with sheet I (0); each call once more within limits that are
+lowered, and some with slots added to the parameters. The exit status is 1 on a mismatch;
+then the smallest failing sheet is printed in hexadecimal.";
 
 struct Arguments {
     seed: u64,

@@ -1,7 +1,10 @@
-//! Budgets and lengths for calls, told by what a sheet needs, so that they can be told
-//! again for a smaller sheet.
+//! Budgets, limits, added slots and lengths for calls. Slots and lengths are told by what a
+//! sheet has and needs, so that they can be told again for a smaller sheet.
 
+use crate::added::Added;
 use crate::expected::{Known, Lengths, MOST_BYTES, MOST_WORK, Passed};
+use crate::flow_c::Answer;
+use crate::limits::Limits;
 use compare::random::Random;
 use kagari_oracle::Budget;
 
@@ -21,6 +24,11 @@ pub enum Length {
 pub struct Plan {
     /// The budget given.
     pub budget: Budget,
+    /// The limits given, if any.
+    pub limits: Option<Limits>,
+    /// The slots that are added to the parameters, if any are handed in. Such a call takes
+    /// limits too; today's if none are given.
+    pub added: Option<Added>,
     /// The length of the block list.
     pub blocks: Length,
     /// The length of the sets buffer.
@@ -32,10 +40,12 @@ pub struct Plan {
 }
 
 impl Plan {
-    /// A budget from zero, and buffers exactly long enough.
+    /// A budget from zero, no limits, no added slots, and buffers exactly long enough.
     pub fn plain() -> Self {
         Self {
             budget: Budget::default(),
+            limits: None,
+            added: None,
             blocks: Length::Needed(0),
             sets: Length::Needed(0),
             scratch: Length::Needed(0),
@@ -67,6 +77,34 @@ impl Plan {
             blocks: length(self.blocks, needs.blocks),
             sets: length(self.sets, needs.sets),
             scratch: length(self.scratch, needs.scratch),
+        }
+    }
+
+    /// The same call within limits: mostly near what its run comes to, as far as the
+    /// answer without limits tells that. They are drawn from the plan's own seed.
+    pub fn within(self, known: &Known, answer: &Answer) -> Self {
+        // The seed itself is that of the garbage.
+        let mut random = Random::new(!self.garbage);
+        let limits = match &known.read {
+            Ok(passed) => near_limits(&mut random, passed, self.budget, answer),
+            Err(_) => any_limits(&mut random),
+        };
+        Self {
+            limits: Some(limits),
+            garbage: random.bits(),
+            ..self
+        }
+    }
+
+    /// The same call with slots added to the parameters, every second time within limits
+    /// too. They are drawn from the plan's own seed.
+    pub fn with(self, known: &Known, answer: &Answer) -> Self {
+        let within = self.within(known, answer);
+        let mut random = Random::new(!within.garbage);
+        Self {
+            added: Some(Added::any(&mut random)),
+            garbage: random.bits(),
+            ..random.pick(&[self, within])
         }
     }
 }
@@ -153,7 +191,7 @@ impl Charged {
             work: answer.budget.work.min(MOST_WORK - 1),
             count: passed.count as u64,
             retained: answer.budget.retained,
-            each: 8 * passed.slots.div_ceil(64) as u64 + 24,
+            each: passed.fact(),
         }
     }
 }
@@ -205,6 +243,72 @@ fn near_retained(random: &mut Random, charged: &Charged) -> u64 {
         _ => random.bits() >> random.number(0..=63),
     };
     end.saturating_add_signed(around)
+}
+
+/// Limits near the sums of a run and near the state that it takes, one of them or all; the
+/// others are today's. Now and then any.
+fn near_limits(random: &mut Random, passed: &Passed, given: Budget, answer: &Answer) -> Limits {
+    let [work, state, facts] = match random.number(0..=9) {
+        0..=2 => [true, false, false],
+        3 => [false, true, false],
+        4..=6 => [false, false, true],
+        7..=8 => [true; 3],
+        _ => return any_limits(random),
+    };
+    let mut limits = Limits::TODAYS;
+    if work {
+        limits.work = near_work_limit(random, passed, given, answer);
+    }
+    if state {
+        let around = random.pick(&[-1, 0, 1]);
+        limits.state = passed.state().saturating_add_signed(around);
+    }
+    if facts {
+        limits.facts = near_facts_limit(random, passed, given, answer);
+    }
+    limits
+}
+
+fn near_work_limit(random: &mut Random, passed: &Passed, given: Budget, answer: &Answer) -> u64 {
+    let around = random.pick(&[-1, 0, 1]);
+    let end = match random.number(0..=9) {
+        // The run's last sum, the last before the state check, any sum, the first.
+        0..=3 => answer.work,
+        4 => given.work.saturating_add(passed.count as u64),
+        5..=8 => given.work + random.bits() % (answer.work - given.work + 1),
+        _ => given.work,
+    };
+    end.saturating_add_signed(around)
+}
+
+fn near_facts_limit(random: &mut Random, passed: &Passed, given: Budget, answer: &Answer) -> u64 {
+    let around = random.pick(&[-1, 0, 1]);
+    let end = match random.number(0..=9) {
+        // The last await's sum, any await's, what the first one adds to.
+        0..=4 => answer.retained,
+        5..=8 => {
+            let awaits = (answer.retained - given.retained) / passed.fact();
+            given.retained + random.bits() % (awaits + 1) * passed.fact()
+        }
+        _ => given.retained,
+    };
+    end.saturating_add_signed(around)
+}
+
+/// Any three limits.
+fn any_limits(random: &mut Random) -> Limits {
+    let limit = |random: &mut Random, todays: u64| match random.number(0..=5) {
+        0 => 0,
+        1 => u64::MAX,
+        2 => todays + 1,
+        3 => todays,
+        _ => random.bits() >> random.number(0..=63),
+    };
+    Limits {
+        work: limit(random, MOST_WORK),
+        state: limit(random, MOST_BYTES),
+        facts: limit(random, MOST_BYTES),
+    }
 }
 
 fn near_rooms(random: &mut Random, plan: &mut Plan) {
@@ -262,6 +366,8 @@ fn any_plan(random: &mut Random) -> Plan {
             work: amount(random),
             retained: amount(random),
         },
+        limits: None,
+        added: None,
         blocks: length(random),
         sets: length(random),
         scratch: length(random),

@@ -1,5 +1,6 @@
 //! What a comparison found.
 
+use crate::expected::Known;
 use crate::lent::Mismatch;
 use crate::plan::Plan;
 use compare::hex::hex;
@@ -56,10 +57,14 @@ const SIZES: [(usize, &str); 5] = [
 pub struct Report {
     /// The sheets that were tried.
     pub sheets: u64,
-    /// The calls that were made with them.
+    /// The calls that were made with them, without limits or added slots.
     pub calls: u64,
-    /// The calls by the number of their answer and the size of their sheet.
+    /// These by the number of their answer and the size of their sheet.
     table: [[u64; SIZES.len()]; NUMBERS],
+    /// The calls within limits by the number of their answer.
+    within: [u64; NUMBERS],
+    /// The calls with added slots by the number of their answer.
+    with: [u64; NUMBERS],
     /// The first mismatch, made small.
     pub failure: Option<Box<Failure>>,
 }
@@ -81,31 +86,89 @@ pub struct Failure {
 
 impl Report {
     /// Counts a call.
-    pub fn count(&mut self, number: u32, sheet_length: usize) {
+    pub fn count(&mut self, plan: &Plan, number: u32, sheet_length: usize) {
+        if plan.added.is_some() {
+            self.with[number as usize] += 1;
+            return;
+        }
+        if plan.limits.is_some() {
+            self.within[number as usize] += 1;
+            return;
+        }
         let below = |&(bytes, _): &(usize, _)| sheet_length < bytes;
         let size = SIZES.iter().position(below).expect("a size class");
         self.table[number as usize][size] += 1;
         self.calls += 1;
     }
 
-    /// How many calls were answered with this number.
+    /// How many calls without limits or added slots were answered with this number.
     pub fn times(&self, number: u32) -> u64 {
         self.table[number as usize].iter().sum()
     }
 
+    /// How many calls within limits were answered with this number.
+    pub fn times_within(&self, number: u32) -> u64 {
+        self.within[number as usize]
+    }
+
+    /// How many calls within limits were made.
+    pub fn calls_within(&self) -> u64 {
+        self.within.iter().sum()
+    }
+
+    /// How many calls with added slots were answered with this number.
+    pub fn times_with(&self, number: u32) -> u64 {
+        self.with[number as usize]
+    }
+
+    /// How many calls with added slots were made.
+    pub fn calls_with(&self) -> u64 {
+        self.with.iter().sum()
+    }
+
     /// Fails with the first mismatch, or if one of the numbers came up less often than
-    /// `least`.
+    /// `least` without limits.
     ///
     /// # Panics
     ///
     /// If so.
     #[track_caller]
     pub fn hold(&self, numbers: impl IntoIterator<Item = u32>, least: u64) {
+        self.hold_by(Self::times, numbers, least);
+    }
+
+    /// The same of the calls within limits.
+    ///
+    /// # Panics
+    ///
+    /// If so.
+    #[track_caller]
+    pub fn hold_within(&self, numbers: impl IntoIterator<Item = u32>, least: u64) {
+        self.hold_by(Self::times_within, numbers, least);
+    }
+
+    /// The same of the calls with added slots.
+    ///
+    /// # Panics
+    ///
+    /// If so.
+    #[track_caller]
+    pub fn hold_with(&self, numbers: impl IntoIterator<Item = u32>, least: u64) {
+        self.hold_by(Self::times_with, numbers, least);
+    }
+
+    #[track_caller]
+    fn hold_by(
+        &self,
+        times: impl Fn(&Self, u32) -> u64,
+        numbers: impl IntoIterator<Item = u32>,
+        least: u64,
+    ) {
         if let Some(failure) = &self.failure {
             panic!("{failure}");
         }
         for number in numbers {
-            let times = self.times(number);
+            let times = times(self, number);
             assert!(times >= least, "{number} came up {times} times\n{self}");
         }
     }
@@ -115,14 +178,26 @@ impl Display for Report {
     fn fmt(&self, f: &mut Formatter) -> fmt::Result {
         let heads = SIZES.iter().map(|(_, name)| format!("{name:>10}"));
         let heads: String = heads.collect();
-        writeln!(f, "{:<19}{heads}{:>11}", "answer", "all")?;
+        let forms = ["all", "within", "with"].map(|form| format!("{form:>11}"));
+        writeln!(f, "{:<19}{heads}{}", "answer", forms.concat())?;
         for (number, name) in NAMES {
             let row = &self.table[number as usize];
             let cells: String = row.iter().map(|calls| format!("{calls:>10}")).collect();
-            let all: u64 = row.iter().sum();
-            writeln!(f, "{number:>2} {name:<16}{cells}{all:>11}")?;
+            let forms = [
+                self.times(number),
+                self.times_within(number),
+                self.times_with(number),
+            ];
+            let forms = forms.map(|calls| format!("{calls:>11}")).concat();
+            writeln!(f, "{number:>2} {name:<16}{cells}{forms}")?;
         }
-        write!(f, "{} sheets, {} calls", self.sheets, self.calls)
+        let (sheets, calls) = (self.sheets, self.calls);
+        let (within, with) = (self.calls_within(), self.calls_with());
+        write!(
+            f,
+            "{sheets} sheets, {calls} calls, {within} calls within limits, {with} calls with \
+             added slots"
+        )
     }
 }
 
@@ -136,6 +211,10 @@ impl Display for Failure {
         writeln!(f, "smallest failing sheet, {} bytes:", self.sheet.len())?;
         writeln!(f, "{}", hex(&self.sheet))?;
         writeln!(f, "called with {:?}", self.plan)?;
+        if let Some(added) = self.plan.added {
+            let words = added.words(&Known::new(&self.sheet));
+            writeln!(f, "added words {words:x?}")?;
+        }
         write!(f, "{}", self.mismatch)
     }
 }

@@ -1,13 +1,15 @@
 //! Makes a failing sheet small: instructions, slots, parameters and bytes are left out
 //! and fields lowered for as long as some call over the sheet still fails.
 
+use crate::added::{Added, Stray, Which};
 use crate::expected::{Known, MOST_WORK};
 use crate::lent::{Lent, Mismatch};
+use crate::limits::Limits;
 use crate::plan::{Length, Plan};
 use compare::damage::records;
 use compare::reader::read;
 use kagari_oracle::cases::{jump, load_const, plain};
-use kagari_oracle::{ABSENT, Field, Instruction, Script, Type, pattern, sheet};
+use kagari_oracle::{ABSENT, Budget, Field, Instruction, Script, Type, pattern, sheet};
 use std::collections::BTreeSet;
 use std::iter;
 use std::ops::Range;
@@ -17,7 +19,7 @@ use std::time::{Duration, Instant};
 const PATIENCE: Duration = Duration::from_secs(20);
 
 /// By how much a budget's distance from the work limit may fall in one step: about what
-/// an instruction is charged in all.
+/// an instruction is charged in all. The same goes for a work limit.
 const CLOSER: u64 = 40;
 
 /// Where the function record has its counts.
@@ -168,7 +170,7 @@ impl Shrinker<'_> {
             return false;
         }
         let known = Known::new(&candidate);
-        for plan in similar(self.plan) {
+        for plan in similar(self.plan, &known) {
             if self.takes(&candidate, &known, plan) {
                 self.sheet = candidate;
                 return true;
@@ -179,13 +181,22 @@ impl Shrinker<'_> {
 
     /// Tries simpler calls over the same sheet.
     fn simplify_plan(&mut self) {
-        let simpler: [fn(&mut Plan); 6] = [
+        let simpler: [fn(&mut Plan); 15] = [
             |plan| {
                 *plan = Plan {
                     garbage: plan.garbage,
                     ..Plan::plain()
                 }
             },
+            |plan| plan.added = None,
+            |plan| simpler_added(plan, |added| *added = Added::NONE),
+            |plan| simpler_added(plan, |added| added.which = Which::All),
+            |plan| simpler_added(plan, |added| added.stray = Stray::None),
+            |plan| simpler_added(plan, |added| added.more = 0),
+            |plan| plan.limits = None,
+            |plan| simpler_limit(plan, |limits| limits.work = Limits::TODAYS.work),
+            |plan| simpler_limit(plan, |limits| limits.state = Limits::TODAYS.state),
+            |plan| simpler_limit(plan, |limits| limits.facts = Limits::TODAYS.facts),
             |plan| plan.budget.work = 0,
             |plan| plan.budget.retained = 0,
             |plan| plan.blocks = Length::Needed(0),
@@ -203,11 +214,7 @@ impl Shrinker<'_> {
 
     /// Makes a call, and remembers it if it fails.
     fn takes(&mut self, sheet: &[u8], known: &Known, plan: Plan) -> bool {
-        let lengths = plan.lengths(known);
-        let checked = self
-            .lent
-            .check(sheet, known, plan.budget, lengths, plan.garbage);
-        let Err(mismatch) = checked else {
+        let Err(mismatch) = self.lent.check(sheet, known, &plan) else {
             return false;
         };
         self.plan = plan;
@@ -216,19 +223,54 @@ impl Shrinker<'_> {
     }
 }
 
-/// A plan, and the same with a budget nearer to the work limit, since a smaller sheet is
-/// charged less.
-fn similar(plan: Plan) -> impl Iterator<Item = Plan> {
+/// A plan, and others for a smaller sheet, which is charged less and takes less state: with
+/// a budget nearer to the work limit, with a lower work limit, and with each limit at what
+/// the sheet comes to and one below.
+fn similar(plan: Plan, known: &Known) -> Vec<Plan> {
+    let mut plans = vec![plan];
     let work = plan.budget.work;
     let nearer = match MOST_WORK.checked_sub(work) {
         Some(left) if work > 0 => left.min(CLOSER),
         _ => 0,
     };
-    iter::once(plan).chain((1..=nearer).map(move |step| {
+    plans.extend((1..=nearer).map(|step| {
         let mut plan = plan;
         plan.budget.work += step;
         plan
-    }))
+    }));
+    let (Some(limits), Ok(passed)) = (plan.limits, &known.read) else {
+        return plans;
+    };
+    let run = match plan.added {
+        None => passed.source(plan.budget),
+        Some(added) => passed.with(&added.words(known)).source(plan.budget),
+    };
+    let Budget { work, retained } = run.budget;
+    let at = |number: u64| [number, number.saturating_sub(1)];
+    let closer = limits.work.saturating_sub(CLOSER)..limits.work;
+    let works = closer.rev().chain(at(work));
+    let works = works.map(|work| Limits { work, ..limits });
+    let states = at(passed.state()).map(|state| Limits { state, ..limits });
+    let facts = at(retained).map(|facts| Limits { facts, ..limits });
+    plans.extend(works.chain(states).chain(facts).map(|limits| Plan {
+        limits: Some(limits),
+        ..plan
+    }));
+    plans
+}
+
+/// Edits the limits of a plan that has some.
+fn simpler_limit(plan: &mut Plan, edit: fn(&mut Limits)) {
+    if let Some(limits) = &mut plan.limits {
+        edit(limits);
+    }
+}
+
+/// Edits the added slots of a plan that has some.
+fn simpler_added(plan: &mut Plan, edit: fn(&mut Added)) {
+    if let Some(added) = &mut plan.added {
+        edit(added);
+    }
 }
 
 /// The items of a tuple, and the tuple without each of them.

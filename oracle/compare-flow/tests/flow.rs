@@ -44,6 +44,14 @@ fn all_families() {
     report.hold([17], 200);
     // A sheet for 11 is large.
     report.hold([11], 40);
+    // Each call is made once more, within limits.
+    assert_eq!(report.calls_within(), report.calls);
+    report.hold_within(0..=15, 200);
+    report.hold_within([17], 200);
+    // A call of every second sheet, about, is made with added slots.
+    assert!(report.calls_with() > report.sheets / 3);
+    report.hold_with(0..=15, 40);
+    report.hold_with([17], 40);
 }
 
 #[test]
@@ -72,6 +80,7 @@ fn awaits() {
     let report = family_of("awaits", 25_000);
     report.hold(FLOW, 1_000);
     report.hold([14, 15], 1_000);
+    report.hold_within([0, 10, 11, 12, 13, 14, 15], 500);
 }
 
 #[test]
