@@ -36,8 +36,7 @@ pub fn examine_with(
 }
 
 // The same where `asked` says so; else no test is made of the set, words that it lacks count as zero, and what is no slot is not looked at. Both forms of
-// the call with limits come here, so that they have one place from which a script is judged, where the compiler knows the script: with two it judges more
-// slowly.
+// the call with limits come here.
 pub fn examine_asked(
     sheet: &[u8],
     limits: Limits,
