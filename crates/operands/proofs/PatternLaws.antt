@@ -1,42 +1,26 @@
--- The code's table holds the patterns, and what the patterns are like, by tests that are computed at each field of each kind. Assumes nothing.
-use mathlib.Core.Path.{◌≡◌, refl, ap, ap₂, sym, ◌∙◌}
+-- What the patterns are like, by tests that are computed at each field of each kind. Assumes nothing.
+use mathlib.Core.Path.{◌≡◌, refl, ap, sym, ◌∙◌}
 use mathlib.Core.Bool.{Bool, true, false}
 use mathlib.Core.List.{List, [], ◌∷◌}
-use Prim.Native.Nat.{ℕ, zero, suc, ◌+◌, ◌-◌, ◌*◌, ◌/◌, ◌%◌, ◌^◌, ◌≤◌, ◌<◌}
+use Prim.Native.Nat.{ℕ, ◌≤◌, ◌<◌}
 use native.Mathlib.Omega.{arith}
 use lib.Dec.{T, eqb, ltb, leb, eqb→eq, ltb→lt}
 use borrow.Author.Tests.{eq-eqb, le-leb, ltb-true, ltb-false, eqb-true, leb-true}
-use lib.ListN.{get_or}
 use Rattle.operands.specs.Choice.{pick}
-use Rattle.operands.specs.Patterns.{D, S, Sopt, Dopt, groups, pattern_in, pattern_of, role_in, role_at, single_of, fixed_at, list_at, fits, word_of}
+use Rattle.operands.specs.Places.{Place}
+use Rattle.operands.specs.Patterns.{D, Dopt, groups, pattern_in, pattern_of, role_in, role_at, single_of, fixed_at, list_at, fits}
 use Rattle.operands.specs.ByPattern.{places_from}
-use Rattle.operands.specs.Instructions.{Known}
-use Rattle.operands.specs.declared.pattern.Pattern.{Pattern}
 use Rattle.operands.proofs.Table.{at_kind, at_field}
-use Rattle.operands.proofs.PlaceLaws.{has_no_place, no_place, one_at}
 
--- the numbers of `PATTERNS`
-abbrev pub words : List ℕ
-words =
-    8832 ∷ 8832 ∷ 12952 ∷ 8896 ∷ 4608 ∷ 9088 ∷ 11392 ∷ 8832 ∷ 8832 ∷ 12944 ∷ 13016 ∷ 18157 ∷ 10495 ∷ 5119 ∷ 8832 ∷ 13016 ∷ 12944 ∷
-    5119 ∷ 5119 ∷ 5119 ∷ 8832 ∷ 8832 ∷ 9344 ∷ 8832 ∷ 8832 ∷ 5119 ∷ 5119 ∷ 8832 ∷ 8832 ∷ 8832 ∷ 9344 ∷ 12944 ∷ 13456 ∷ 8895 ∷ 9407 ∷
-    14487 ∷ 8895 ∷ 6656 ∷ 13672 ∷ 5632 ∷ 0 ∷ []
+-- whether there is no place
+abbrev has_no_place : List Place → Bool
+has_no_place [] = true
+has_no_place (p ∷ ps) = false
 
-unfoldable own : ℕ → Bool
-own k = eqb (get_or words (k - 1) 0) (word_of k)
-
-all_own : (k : ℕ) → 1 ≤ k → k ≤ 41 → T (own k)
-unfolding own word_of pattern_of pattern_in groups role_in role_at fixed_at
-all_own = at_kind own tt
-
--- the entry that `Pattern::of` reads
-pub word_at : (k : ℕ) → 1 ≤ k → k ≤ 41 → get_or words (k - 1) 0 ≡ word_of k
-unfolding own
-word_at k l h = eqb→eq (get_or words (k - 1) 0) (word_of k) (all_own k l h)
-
--- a kind of the table with its own pattern is told by its kind
-pub pattern-is : (p : Pattern) (k : ℕ) → p.kind ≡ k → Known p → p ≡ record { kind = k; word = word_of k }
-pattern-is p k e h = ap₂ {C = Pattern} (λ (a b : ℕ). record { kind = a; word = b }) e (h.own ∙ ap word_of e)
+-- then the list is empty
+no_place : (ps : List Place) → T (has_no_place ps) → ps ≡ []
+no_place [] t = refl
+no_place (p ∷ ps) t = absurd t
 
 -- no field after field 0 is an output
 unfoldable inner : ℕ → Bool
@@ -49,14 +33,6 @@ all-inner = at_kind inner tt
 pub outputs-first : (k : ℕ) → 1 ≤ k → k ≤ 41 → places_from D Dopt k 1 3 ≡ []
 unfolding inner
 outputs-first k l h = no_place (places_from D Dopt k 1 3) (all-inner k l h)
-
--- a role is one octal digit
-unfoldable digit : ℕ → ℕ → Bool
-digit k j = ltb (role_at k j) 8
-
-pub role_small : (k j : ℕ) → 1 ≤ k → k ≤ 41 → j < 4 → role_at k j < 8
-unfolding digit pattern_of pattern_in groups role_in role_at
-role_small k j l h m = ltb→lt (role_at k j) 8 (at_field digit tt k j l h m)
 
 role_last : (k j : ℕ) → 3 ≤ j → role_at k 3 ≡ role_at k j
 unfolding role_at
@@ -80,27 +56,6 @@ fixed-few k =
         go false true = omega arith
         go false false = omega arith
 
--- the digits of a pattern's word
-module _ (k : ℕ) (l : 1 ≤ k) (h : k ≤ 41) where
-  small : (role_at k 0 < 8) × (role_at k 1 < 8) × (role_at k 2 < 8) × (role_at k 3 < 8)
-  small =
-      (role_small k 0 l h (omega arith), role_small k 1 l h (omega arith), role_small k 2 l h (omega arith), role_small k 3 l h (omega arith))
-
-  pub count_digit : word_of k / 4096 ≡ fixed_at k
-  unfolding word_of
-  count_digit = omega (arith, small)
-
-  pub digit_3 : (j : ℕ) → 3 ≤ j → word_of k % 8 ≡ role_at k j
-  unfolding word_of
-  digit_3 j m = omega (arith, small, role_last k j m)
-
-  pub digit_at : (j : ℕ) → j < 3 → word_of k / 2 ^ (9 - 3 * j) % 8 ≡ role_at k j
-  unfolding word_of
-  digit_at zero m = omega (arith, small)
-  digit_at (suc zero) m = omega (arith, small)
-  digit_at (suc (suc zero)) m = omega (arith, small)
-  digit_at (suc (suc (suc j))) m = absurd (omega arith)
-
 -- a single field stands before the first of L
 unfoldable early : ℕ → ℕ → Bool
 early k j = pick (eqb (single_of (role_at k j)) 1) (ltb j (fixed_at k)) true
@@ -112,21 +67,6 @@ all-early = at_field early tt
 pub single-early : (k j : ℕ) → 1 ≤ k → k ≤ 41 → j < 4 → single_of (role_at k j) ≡ 1 → j < fixed_at k
 unfolding early
 single-early k j l h m e = ltb→lt j (fixed_at k) (rw (eq-eqb _ _ e) at (all-early k j l h m))
-
--- inputs S stand together from field 0 or 1 on, before any S?
-unfoldable direct : ℕ → ℕ → Bool
-direct k n =
-    let f : ℕ = pick (eqb (role_at k 0) S) 0 1 in
-    pick (eqb (role_at k (f + n)) S) (eqb (one_at (places_from S Sopt k 0 4) n) (f + n)) true
-
-all_direct : (k n : ℕ) → 1 ≤ k → k ≤ 41 → n < 4 → T (direct k n)
-unfolding direct pattern_of pattern_in groups role_in role_at places_from one_at
-all_direct = at_field direct tt
-
-pub inputs-direct : (k n : ℕ) → 1 ≤ k → k ≤ 41 → n < 4 → role_at k (pick (eqb (role_at k 0) S) 0 1 + n) ≡ S
-    → one_at (places_from S Sopt k 0 4) n ≡ pick (eqb (role_at k 0) S) 0 1 + n
-unfolding direct
-inputs-direct k n l h m e = eqb→eq _ _ (rw (eq-eqb _ _ e) at (all_direct k n l h m))
 
 -- after the single fields each field of a kind with L is L
 unfoldable late : ℕ → ℕ → Bool
@@ -156,3 +96,10 @@ fixed-there k n e = go (list_at k) e
     go : (q : Bool) → pick q (leb (fixed_at k) n) (eqb n (fixed_at k)) ≡ true → fixed_at k ≤ n
     go true e = leb-true (fixed_at k) n e
     go false e = let q = eqb-true n (fixed_at k) e in omega arith
+
+-- a single field that the pattern names is there
+pub field_there : (k n j : ℕ) → 1 ≤ k → k ≤ 41 → fits k n ≡ true → j < 4 → single_of (role_at k j) ≡ 1 → j < n
+field_there k n j l h f m s =
+    let most = fixed-there k n f in
+    let here = single-early k j l h m s in
+    omega arith

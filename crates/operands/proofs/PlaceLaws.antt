@@ -1,27 +1,19 @@
--- Gathering the values at places: the single operands field by field, and the i-th of them. Assumes nothing.
+-- Gathering the values at places: the single operands field by field. Assumes nothing.
 use mathlib.Core.Path.{◌≡◌, refl, ap, sym, ◌∙◌}
 use mathlib.Core.Bool.{Bool, true, false}
 use mathlib.Core.List.{List, [], ◌∷◌, ◌++◌, append_assoc}
 use Prim.Native.Nat.{ℕ, zero, suc, ◌+◌, ◌-◌, ◌≤◌, ◌<◌}
 use native.Mathlib.Omega.{arith}
-use lib.Dec.{T, eqb}
-use lib.ListN.{length, get_or, drop, length-append, get_or-append}
+use lib.Dec.{eqb}
+use lib.ListN.{length, get_or, drop, length-append}
+use borrow.Author.Tests.{ne_eqb}
+use Rattle.std.specs.Prelude.{Some, None}
 use Rattle.operands.specs.Choice.{pick}
 use Rattle.operands.specs.Places.{Place, one, optional, rest, absent, present, gathered}
-use Rattle.operands.specs.Patterns.{role_at}
+use Rattle.operands.specs.Patterns.{role_at, single_of, fixed_at}
 use Rattle.operands.specs.ByPattern.{single_place, places_from}
-use Rattle.operands.specs.Instructions.{nth, single_values, count_of}
-use Rattle.operands.specs.declared.instruction.Value.TheVariants.{Is, Absent}
-
--- whether there is no place
-abbrev pub has_no_place : List Place → Bool
-has_no_place [] = true
-has_no_place (p ∷ ps) = false
-
--- then the list is empty
-pub no_place : (ps : List Place) → T (has_no_place ps) → ps ≡ []
-no_place [] t = refl
-no_place (p ∷ ps) t = absurd t
+use Rattle.operands.specs.Instructions.{nth, single_values, singles_from}
+use Rattle.operands.proofs.PatternLaws.{single-early}
 
 -- gathering at places one after the other
 pub gathered-append : (ps qs : List Place) (v : List ℕ) → gathered (ps ++ qs) v ≡ gathered ps v ++ gathered qs v
@@ -40,7 +32,7 @@ gathered-append (rest j ∷ ps) qs v =
     ap (λ (l : List ℕ). drop j v ++ l) (gathered-append ps qs v) ∙ sym (append_assoc (drop j v) (gathered ps v) (gathered qs v))
 
 -- the values at a single place
-pub single-gathered : (a b role j : ℕ) (v : List ℕ) → gathered (single_place a b role j) v ≡ single_values a b role (get_or v j absent)
+single-gathered : (a b role j : ℕ) (v : List ℕ) → gathered (single_place a b role j) v ≡ single_values a b role (get_or v j absent)
 unfolding gathered
 single-gathered a b role j v = go (eqb role a) (eqb role b)
   where
@@ -58,20 +50,8 @@ singles-more a b k j (suc left) v h =
     let q : suc left - 1 ≡ left = omega arith in
     rw (q, gathered-append (single_place a b (role_at k j) j) (places_from a b k (j + 1) left) v, single-gathered a b (role_at k j) j v)
 
-pub singles-none : (a b k j left : ℕ) (v : List ℕ) → left ≡ 0 → gathered (places_from a b k j left) v ≡ []
-unfolding places_from gathered
-singles-none a b k j zero v h = refl
-singles-none a b k j (suc left) v h = absurd (omega arith)
-
--- a list of at most one value is told by its first
-one-counted : (l : List ℕ) → length l ≤ 1 → count_of (nth l 0) ≡ length l
-unfolding nth
-one-counted [] h = refl
-one-counted (x ∷ []) h = refl
-one-counted (x ∷ y ∷ l) h = absurd (omega arith)
-
--- there is at most one
-pub single-few : (a b role x : ℕ) → length (single_values a b role x) ≤ 1
+-- there is at most one value in a single place
+single-few : (a b role x : ℕ) → length (single_values a b role x) ≤ 1
 single-few a b role x = go (eqb role a) (eqb role b) (eqb x absent)
   where
     go : (p q r : Bool) → length (pick p (x ∷ []) (pick q (pick r [] (x ∷ [])) [])) ≤ 1
@@ -80,78 +60,56 @@ single-few a b role x = go (eqb role a) (eqb role b) (eqb x absent)
     go false true false = omega arith
     go false false r = omega arith
 
-pub single-counted : (a b role x : ℕ) → count_of (nth (single_values a b role x) 0) ≡ length (single_values a b role x)
-single-counted a b role x = one-counted (single_values a b role x) (single-few a b role x)
+-- so its first tells it
+none_alone : (l : List ℕ) → None ≡ nth l 0 → l ≡ []
+none_alone [] e = refl
+none_alone (x ∷ l) e = cc
 
--- the i-th of a list that is long enough
-pub nth-there : (l : List ℕ) (i d : ℕ) → i < length l → nth l i ≡ Is (get_or l i d)
-unfolding nth
-nth-there [] i d h = absurd (omega arith)
-nth-there (x ∷ l) zero d h = refl
-nth-there (x ∷ l) (suc i) d h = nth-there l i d (omega arith)
+some_alone : (l : List ℕ) (x : ℕ) → length l ≤ 1 → Some x ≡ nth l 0 → l ≡ x ∷ []
+some_alone [] x h e = cc
+some_alone (y ∷ []) x h e = cc
+some_alone (y ∷ z ∷ l) x h e = absurd (omega arith)
 
--- the i-th of two lists
-pub nth-second : (l m : List ℕ) (i : ℕ) → length l ≤ i → nth (l ++ m) i ≡ nth m (i - length l)
-unfolding nth
-nth-second [] m i h = ap (nth m) (omega arith)
-nth-second (x ∷ l) m zero h = absurd (omega arith)
-nth-second (x ∷ l) m (suc i) h = nth-second l m i (omega arith) ∙ ap (nth m) (omega arith)
+-- at most one in each field
+pub singles_few : (a b k j n : ℕ) (v : List ℕ) → length (gathered (places_from a b k j n) v) ≤ n
+unfolding places_from gathered
+singles_few a b k j zero v = omega arith
+singles_few a b k j (suc n) v =
+    let few = single-few a b (role_at k j) (get_or v j absent) in
+    let rest = singles_few a b k (j + 1) n v in
+    rw (gathered-append (single_place a b (role_at k j) j) (places_from a b k (j + 1) n) v, single-gathered a b (role_at k j) j v, length-append)
+    (omega arith)
 
-pub nth-first : (l m : List ℕ) (i : ℕ) → i < length l → nth (l ++ m) i ≡ Is (get_or l i absent)
-nth-first l m i h = nth-there (l ++ m) i absent (omega (arith, length-append l m)) ∙ ap Is (get_or-append l m absent i h)
-
--- the first of a single place is the i-th where one is left
-pub nth-single : (a b role x : ℕ) (m : List ℕ) (i : ℕ) → i < length (single_values a b role x)
-    → nth (single_values a b role x) 0 ≡ nth (single_values a b role x ++ m) i
-unfolding nth
-nth-single a b role x m i h = go (single_values a b role x) (single-few a b role x) h
-  where
-    go : (l : List ℕ) → length l ≤ 1 → i < length l → nth l 0 ≡ nth (l ++ m) i
-    go [] f h = absurd (omega arith)
-    go (y ∷ []) f h = let z : i ≡ 0 = omega arith in rw z
-    go (y ∷ z ∷ l) f h = absurd (omega arith)
-
--- the steps of the loops over the four fields
-four : (a b k j : ℕ) (v : List ℕ) → j < 4
-    → gathered (places_from a b k j (4 - j)) v ≡ single_values a b (role_at k j) (get_or v j absent) ++ gathered (places_from a b k (j + 1) (4 - (j + 1))) v
-four a b k j v h =
+-- the step of an iterator over the single operands of a class, by what stands in field j
+singles-step : (a b k : ℕ) (v : List ℕ) (j : ℕ) → j < 4
+    → singles_from a b k v j ≡ single_values a b (role_at k j) (get_or v j absent) ++ singles_from a b k v (j + 1)
+singles-step a b k v j h =
     singles-more a b k j (4 - j) v (omega arith)
     ∙ ap (λ (m : ℕ). single_values a b (role_at k j) (get_or v j absent) ++ gathered (places_from a b k (j + 1) m) v) (omega arith)
 
-pub singles-length : (a b k j : ℕ) (v : List ℕ) → j < 4
-    → length (gathered (places_from a b k j (4 - j)) v)
-    ≡ length (single_values a b (role_at k j) (get_or v j absent)) + length (gathered (places_from a b k (j + 1) (4 - (j + 1))) v)
-singles-length a b k j v h = ap length (four a b k j v h) ∙ simp length-append
+pub singles_skip : (a b k : ℕ) (v : List ℕ) (j : ℕ) → j < 4 → None ≡ nth (single_values a b (role_at k j) (get_or v j absent)) 0
+    → singles_from a b k v j ≡ singles_from a b k v (j + 1)
+singles_skip a b k v j h e =
+    singles-step a b k v j h ∙ ap (λ (l : List ℕ). l ++ singles_from a b k v (j + 1)) (none_alone _ e)
 
-pub nth_here : (a b k j : ℕ) (v : List ℕ) (i : ℕ) → j < 4 → i < length (single_values a b (role_at k j) (get_or v j absent))
-    → nth (single_values a b (role_at k j) (get_or v j absent)) 0 ≡ nth (gathered (places_from a b k j (4 - j)) v) i
-nth_here a b k j v i h l =
-    nth-single a b (role_at k j) (get_or v j absent) (gathered (places_from a b k (j + 1) (4 - (j + 1))) v) i l
-    ∙ ap (λ (m : List ℕ). nth m i) (sym (four a b k j v h))
+pub singles_take : (a b k : ℕ) (v : List ℕ) (j x : ℕ) → j < 4 → Some x ≡ nth (single_values a b (role_at k j) (get_or v j absent)) 0
+    → singles_from a b k v j ≡ x ∷ singles_from a b k v (j + 1)
+singles_take a b k v j x h e =
+    singles-step a b k v j h
+    ∙ ap (λ (l : List ℕ). l ++ singles_from a b k v (j + 1)) (some_alone _ x (single-few a b (role_at k j) (get_or v j absent)) e)
 
-pub nth-later : (a b k j : ℕ) (v : List ℕ) (i : ℕ) → j < 4 → length (single_values a b (role_at k j) (get_or v j absent)) ≤ i
-    → nth (gathered (places_from a b k j (4 - j)) v) i
-    ≡ nth (gathered (places_from a b k (j + 1) (4 - (j + 1))) v) (i - length (single_values a b (role_at k j) (get_or v j absent)))
-nth-later a b k j v i h l =
-    ap (λ (m : List ℕ). nth m i) (four a b k j v h)
-    ∙ nth-second (single_values a b (role_at k j) (get_or v j absent)) (gathered (places_from a b k (j + 1) (4 - (j + 1))) v) i l
+-- no single operand stands after the single fields
+late-places : (a b k j n : ℕ) → single_of a ≡ 1 → single_of b ≡ 1 → 1 ≤ k → k ≤ 41 → fixed_at k ≤ j → (0 < n → j + n ≤ 4) → places_from a b k j n ≡ []
+unfolding places_from
+late-places a b k j zero p q l h f m = refl
+late-places a b k j (suc n) p q l h f m =
+    let i : j + suc n ≤ 4 = m (omega arith) in
+    let early = single-early k j l h (omega arith) in
+    let x = ne_eqb (role_at k j) a (λ e. absurd (let t = early (ap single_of e ∙ p) in omega arith)) in
+    let y = ne_eqb (role_at k j) b (λ e. absurd (let t = early (ap single_of e ∙ q) in omega arith)) in
+    rw (x, y) (late-places a b k (j + 1) n p q l h (omega arith) (λ z. omega arith))
 
-pub nth-nil : (l : List ℕ) (i : ℕ) → l ≡ [] → nth l i ≡ Absent
-unfolding nth
-nth-nil l i e = rw e
-
--- the n-th place if it and those before it are there in any case, else 9
-unfoldable pub one_at : List Place → ℕ → ℕ
-one_at [] n = 9
-one_at (one j ∷ ps) zero = j
-one_at (one j ∷ ps) (suc n) = one_at ps n
-one_at (optional j ∷ ps) n = 9
-one_at (rest j ∷ ps) n = 9
-
-pub nth-one : (ps : List Place) (v : List ℕ) (n j : ℕ) → one_at ps n ≡ j → j < 9 → nth (gathered ps v) n ≡ Is (get_or v j absent)
-unfolding one_at gathered nth
-nth-one [] v n j e h = absurd (omega arith)
-nth-one (one i ∷ ps) v zero j e h = rw e
-nth-one (one i ∷ ps) v (suc n) j e h = nth-one ps v n j e h
-nth-one (optional i ∷ ps) v n j e h = absurd (omega arith)
-nth-one (rest i ∷ ps) v n j e h = absurd (omega arith)
+pub singles_end : (a b k : ℕ) (v : List ℕ) (j : ℕ) → single_of a ≡ 1 → single_of b ≡ 1 → 1 ≤ k → k ≤ 41 → fixed_at k ≤ j
+    → singles_from a b k v j ≡ []
+unfolding gathered
+singles_end a b k v j p q l h f = ap (λ (ps : List Place). gathered ps v) (late-places a b k j (4 - j) p q l h f (λ z. omega arith))

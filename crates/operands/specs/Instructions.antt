@@ -1,64 +1,74 @@
--- An instruction where it stands in the bytes of a sheet, and the operands that are read there.
-use Rattle.std.specs.Prelude.{◌≡◌, true, List, [], ◌∷◌, ℕ, zero, suc, ◌+◌, ◌*◌, ◌-◌, ◌≤◌, eqb, length}
-use Rattle.std.proofs.Math.Option.{Option, none, some}
+-- The operands of an instruction, as they are read in its fields.
+use Rattle.std.specs.Prelude.{List, [], ◌∷◌, ◌++◌, map, ℕ, ◌-◌, eqb, Option, Some, None}
+use Rattle.std.specs.List.{slice_get}
+use Rattle.std.specs.Option.{option_map}
+use Rattle.std.proofs.Math.Option.{none, some}
+use Rattle.std.proofs.Math.Option as option
 use Rattle.operands.specs.Choice.{pick}
 use Rattle.operands.specs.Places.{present, gathered}
-use Rattle.operands.specs.Patterns.{fits, word_of}
+use Rattle.operands.specs.Operands.{inputs_of, output_of, targets_of}
 use Rattle.operands.specs.ByPattern.{places_from}
-use Rattle.operands.specs.Bytes.{numbers_at}
-use Rattle.operands.specs.declared.pattern.Pattern.{Pattern}
+use Rattle.operands.specs.Bytes.{number_in}
+use Rattle.operands.specs.Kinds.{kind_number}
+use Rattle.operands.specs.Roles.{role_number}
 use Rattle.operands.specs.declared.instruction.Instruction.{Instruction}
-use Rattle.operands.specs.declared.instruction.Value.{Value}
-use Rattle.operands.specs.declared.instruction.Value.TheVariants.{Is, Absent}
-use Rattle.operands.specs.declared.instruction.SlotOperand.{SlotOperand}
-use Rattle.operands.specs.declared.instruction.SlotOperand.TheVariants as slots
-use Rattle.operands.specs.declared.instruction.TargetOperand.{TargetOperand}
-use Rattle.operands.specs.declared.instruction.TargetOperand.TheVariants as targets
-
--- a kind of the table, with its own pattern
-pub record Known (p : Pattern) : Type 0 where
-  pub low : 1 ≤ p.kind
-  pub high : p.kind ≤ 41
-  pub own : p.word ≡ word_of p.kind
-
--- an instruction that can be read: a kind of the table, with fields that fit its pattern and lie in the sheet
-pub record Readable (s : List ℕ) (i : Instruction) : Type 0 where
-  pub known : Known i.pattern
-  pub fitting : fits i.pattern.kind i.fields ≡ true
-  pub within : i.body + 4 * i.fields ≤ length s
+use Rattle.operands.specs.declared.iter.Singles.{Singles}
+use Rattle.operands.specs.declared.iter.Inputs.{Inputs}
+use Rattle.operands.specs.declared.iter.Targets.{Targets}
+use Rattle.operands.specs.declared.slots.Slot.{Slot}
+use Rattle.operands.specs.declared.slots.JumpTarget.{JumpTarget}
 
 -- the values of its fields, in the record's order
-unfoldable pub values_of : List ℕ → Instruction → List ℕ
-values_of s i = numbers_at s i.body i.fields
+abbrev pub values_of : Instruction → List ℕ
+values_of i = map number_in i.fields.now
+
+-- the slots that it reads, the slot that it writes, and the instructions that it names as targets
+abbrev pub inputs_in : Instruction → List ℕ
+inputs_in i = inputs_of (kind_number i.kind) (values_of i)
+
+abbrev pub output_in : Instruction → option.Option ℕ
+output_in i = output_of (kind_number i.kind) (values_of i)
+
+abbrev pub targets_in : Instruction → List ℕ
+targets_in i = targets_of (kind_number i.kind) (values_of i)
 
 -- the i-th of a list of values
-unfoldable pub nth : List ℕ → ℕ → Value
-nth [] i = Absent
-nth (x ∷ xs) zero = Is x
-nth (x ∷ xs) (suc i) = nth xs i
+abbrev pub nth : List ℕ → ℕ → Option ℕ
+nth xs i = slice_get xs i
 
 -- the value that may be there
-abbrev pub value_of : Option ℕ → Value
-value_of (some x) = Is x
-value_of none = Absent
+abbrev pub value_of : option.Option ℕ → Option ℕ
+value_of (some x) = Some x
+value_of none = None
 
--- the number that an answer holds
-abbrev pub slot_in : SlotOperand → Value
-slot_in (slots.Is x) = Is x.0
-slot_in slots.Absent = Absent
+-- the number of a slot or a target, and the one that an answer holds
+abbrev pub slot_number : Slot → ℕ
+slot_number s = s.0
 
-abbrev pub target_in : TargetOperand → Value
-target_in (targets.Is x) = Is x.0
-target_in targets.Absent = Absent
+abbrev pub target_number : JumpTarget → ℕ
+target_number t = t.0
+
+abbrev pub slot_in : Option Slot → Option ℕ
+slot_in o = option_map slot_number o
+
+abbrev pub target_in : Option JumpTarget → Option ℕ
+target_in o = option_map target_number o
 
 -- the value of one single field as an operand of the class whose role is a, or b where it may be absent: none or one
 abbrev pub single_values : ℕ → ℕ → ℕ → ℕ → List ℕ
 single_values a b role x = pick (eqb role a) (x ∷ []) (pick (eqb role b) (present x []) [])
 
--- the single operands of a class from field j on
-abbrev pub singles_from : ℕ → ℕ → List ℕ → Instruction → ℕ → List ℕ
-singles_from a b s i j = gathered (places_from a b i.pattern.kind j (4 - j)) (values_of s i)
+-- the single operands of a class in an instruction of kind k with the field values v, from field j on
+abbrev pub singles_from : ℕ → ℕ → ℕ → List ℕ → ℕ → List ℕ
+singles_from a b k v j = gathered (places_from a b k j (4 - j)) v
 
-abbrev pub count_of : Value → ℕ
-count_of (Is x) = 1
-count_of Absent = 0
+-- the operands that an iterator has left
+abbrev pub singles_left : Singles → List ℕ
+singles_left it =
+    singles_from (role_number it.always) (role_number it.maybe) (kind_number it.pattern.kind) (map number_in it.fields.now) it.next
+
+abbrev pub inputs_left : Inputs → List ℕ
+inputs_left it = map number_in it.rest.now ++ singles_left it.singles
+
+abbrev pub targets_left : Targets → List ℕ
+targets_left it = singles_left it.0

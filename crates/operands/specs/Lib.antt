@@ -6,6 +6,6 @@ pub mod Patterns
 pub mod Operands
 pub mod ByPattern
 pub mod Kinds
+pub mod Roles
 pub mod Bytes
 pub mod Instructions
-pub mod Slots

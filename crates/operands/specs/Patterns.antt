@@ -1,5 +1,5 @@
 -- The field patterns of the 41 kinds of instruction record, as document 01 groups them under "Bodies, as kind numbers".
-use Rattle.std.specs.Prelude.{Bool, false, ◌||◌, List, [], ◌∷◌, ℕ, zero, suc, ◌+◌, ◌*◌, min, eqb, leb}
+use Rattle.std.specs.Prelude.{Bool, false, ◌||◌, List, [], ◌∷◌, ℕ, zero, suc, ◌+◌, min, eqb, leb}
 use Rattle.operands.specs.Choice.{pick}
 
 -- The roles of a field. D: output
@@ -101,8 +101,3 @@ list_at k = eqb (role_at k 3) L
 -- whether a record of kind k may have so many fields: its single fields, and any number more if L follows them
 unfoldable pub fits : ℕ → ℕ → Bool
 fits k fields = pick (list_at k) (leb (fixed_at k) fields) (eqb fields (fixed_at k))
-
--- the pattern of kind k as five octal digits, how many single fields there are and then the roles, field 0 first: how the table of the code
--- holds it
-unfoldable pub word_of : ℕ → ℕ
-word_of k = 4096 * fixed_at k + 512 * role_at k 0 + 64 * role_at k 1 + 8 * role_at k 2 + role_at k 3

@@ -1,172 +1,177 @@
 // The table of field patterns, which the operand functions and whatever writes records share.
-ghost use Rattle.std.specs.Prelude.{◌≡◌, ◌≤◌, ◌<◌};
+ghost use Rattle.std.specs.Prelude.{◌≡◌, ◌≤◌, [], ◌∷◌};
 ghost use Rattle.operands.specs.Patterns.{role_at, fixed_at, list_at, fits};
-ghost use Rattle.operands.specs.Instructions.{Known};
+ghost use Rattle.operands.specs.Kinds.{kind_number};
+ghost use Rattle.operands.specs.Roles.{role_number, roles_at};
 
-// The roles of a field: D output, S input, T target, M module slot, L each of the remaining slots; D? and S? may be absent.
-// 0 is no field.
-pub const D: u16 = 1;
+use crate::kind::Kind;
+use Role::{Input, Module, Nothing, OptionalInput, OptionalOutput, Output, Rest, Target};
 
-pub const S: u16 = 2;
-
-pub const SOPT: u16 = 3;
-
-pub const DOPT: u16 = 4;
-
-pub const T: u16 = 5;
-
-pub const M: u16 = 6;
-
-pub const L: u16 = 7;
-
-// A kind with its pattern: five octal digits, how many single fields there are and then the roles, field 0 first. From field 3 on the role
-// stays the same: only L goes on so far.
-#[derive(Clone, Copy)]
-pub struct Pattern {
-    pub kind: usize,
-    pub word: usize,
+// What a field holds. Document 01 writes D, S, S?, D?, T, M and L; what may be absent is written with a question mark.
+#[derive(Clone, Copy, PartialEq, Eq, Debug)]
+pub enum Role {
+    Nothing = 0,
+    Output = 1,
+    Input = 2,
+    OptionalInput = 3,
+    OptionalOutput = 4,
+    Target = 5,
+    Module = 6,
+    // each of the remaining slots
+    Rest = 7,
 }
 
-// The patterns of kinds 1 to 41.
-pub const PATTERNS: [u16; 41] = [
-    // 1 Await: D S
-    0o21200,
-    // 2 Convert: D S
-    0o21200,
-    // 3 Numeric: D S S?
-    0o31230,
-    // 4 Iter: D S?
-    0o21300,
-    // 5 LoadConst: D
-    0o11000,
-    // 6 LoadModule: D M
-    0o21600,
-    // 7 StoreModule: M S
-    0o26200,
-    // 8 Move: D S
-    0o21200,
-    // 9 Unary: D S
-    0o21200,
-    // 10 Binary: D S S
-    0o31220,
-    // 11 BinaryOperands: D S? S?
-    0o31330,
-    // 12 PredicateBranch: S? S? T T
-    0o43355,
-    // 13 Call: D? S? L
-    0o24377,
-    // 14 MakeTuple: D L
-    0o11777,
-    // 15 RangeBound: D S
-    0o21200,
-    // 16 MakeRange: D S? S?
-    0o31330,
-    // 17 RepeatArray: D S S
-    0o31220,
-    // 18 MakeArray: D L
-    0o11777,
-    // 19 MakeFuture: D L
-    0o11777,
-    // 20 MakeClosure: D L
-    0o11777,
-    // 21 MakeCell: D S
-    0o21200,
-    // 22 ReadCell: D S
-    0o21200,
-    // 23 WriteCell: S S
-    0o22200,
-    // 24 UpcastInterface: D S
-    0o21200,
-    // 25 MakeInterface: D S
-    0o21200,
-    // 26 MakeStruct: D L
-    0o11777,
-    // 27 MakeEnum: D L
-    0o11777,
-    // 28 TestEnumVariant: D S
-    0o21200,
-    // 29 ReadEnumPayload: D S
-    0o21200,
-    // 30 ReadAggregateField: D S
-    0o21200,
-    // 31 WriteAggregateField: S S
-    0o22200,
-    // 32 ReadAggregateIndex: D S S
-    0o31220,
-    // 33 WriteAggregateIndex: S S S
-    0o32220,
-    // 34 ReadPath: D S L
-    0o21277,
-    // 35 SetPath: S S L
-    0o22277,
-    // 36 ModifyPath: D? S S L
-    0o34227,
-    // 37 MakePathView: D S L
-    0o21277,
-    // 38 Jump: T
-    0o15000,
-    // 39 Branch: S T T
-    0o32550,
-    // 40 Return: S?
-    0o13000,
-    // 41 Unreachable: no field
-    0o00000,
+// How many single fields a record has, and the roles of its first four. From field 3 on the role stays the same: only `Rest` goes on so far.
+#[derive(Clone, Copy)]
+struct Row(u8, Role, Role, Role, Role);
+
+// The patterns of kinds 1 to 41, in their order: document 01's list. A `match` by groups was tried: reading operands took half as long again.
+static PATTERNS: [Row; 41] = [
+    // Await
+    Row(2, Output, Input, Nothing, Nothing),
+    // Convert
+    Row(2, Output, Input, Nothing, Nothing),
+    // Numeric
+    Row(3, Output, Input, OptionalInput, Nothing),
+    // Iter
+    Row(2, Output, OptionalInput, Nothing, Nothing),
+    // LoadConst
+    Row(1, Output, Nothing, Nothing, Nothing),
+    // LoadModule
+    Row(2, Output, Module, Nothing, Nothing),
+    // StoreModule
+    Row(2, Module, Input, Nothing, Nothing),
+    // Move
+    Row(2, Output, Input, Nothing, Nothing),
+    // Unary
+    Row(2, Output, Input, Nothing, Nothing),
+    // Binary
+    Row(3, Output, Input, Input, Nothing),
+    // BinaryOperands
+    Row(3, Output, OptionalInput, OptionalInput, Nothing),
+    // PredicateBranch
+    Row(4, OptionalInput, OptionalInput, Target, Target),
+    // Call
+    Row(2, OptionalOutput, OptionalInput, Rest, Rest),
+    // MakeTuple
+    Row(1, Output, Rest, Rest, Rest),
+    // RangeBound
+    Row(2, Output, Input, Nothing, Nothing),
+    // MakeRange
+    Row(3, Output, OptionalInput, OptionalInput, Nothing),
+    // RepeatArray
+    Row(3, Output, Input, Input, Nothing),
+    // MakeArray
+    Row(1, Output, Rest, Rest, Rest),
+    // MakeFuture
+    Row(1, Output, Rest, Rest, Rest),
+    // MakeClosure
+    Row(1, Output, Rest, Rest, Rest),
+    // MakeCell
+    Row(2, Output, Input, Nothing, Nothing),
+    // ReadCell
+    Row(2, Output, Input, Nothing, Nothing),
+    // WriteCell
+    Row(2, Input, Input, Nothing, Nothing),
+    // UpcastInterface
+    Row(2, Output, Input, Nothing, Nothing),
+    // MakeInterface
+    Row(2, Output, Input, Nothing, Nothing),
+    // MakeStruct
+    Row(1, Output, Rest, Rest, Rest),
+    // MakeEnum
+    Row(1, Output, Rest, Rest, Rest),
+    // TestEnumVariant
+    Row(2, Output, Input, Nothing, Nothing),
+    // ReadEnumPayload
+    Row(2, Output, Input, Nothing, Nothing),
+    // ReadAggregateField
+    Row(2, Output, Input, Nothing, Nothing),
+    // WriteAggregateField
+    Row(2, Input, Input, Nothing, Nothing),
+    // ReadAggregateIndex
+    Row(3, Output, Input, Input, Nothing),
+    // WriteAggregateIndex
+    Row(3, Input, Input, Input, Nothing),
+    // ReadPath
+    Row(2, Output, Input, Rest, Rest),
+    // SetPath
+    Row(2, Input, Input, Rest, Rest),
+    // ModifyPath
+    Row(3, OptionalOutput, Input, Input, Rest),
+    // MakePathView
+    Row(2, Output, Input, Rest, Rest),
+    // Jump
+    Row(1, Target, Nothing, Nothing, Nothing),
+    // Branch
+    Row(3, Input, Target, Target, Nothing),
+    // Return
+    Row(1, OptionalInput, Nothing, Nothing, Nothing),
+    // Unreachable
+    Row(0, Nothing, Nothing, Nothing, Nothing),
 ];
 
-fn wide(x: u16) -> usize
-    ensures { result ≡ x }
-{
-    x as usize
+// The pattern of a kind: how many single fields its record has, and the roles of the first four fields.
+#[derive(Clone, Copy)]
+pub struct Pattern {
+    pub kind: Kind,
+    pub single: usize,
+    first: Role,
+    second: Role,
+    third: Role,
+    later: Role,
+    pub ghost counted: { single ≡ fixed_at (kind_number kind) },
+    pub ghost few: { single ≤ 4 },
+    ghost shown: { role_number first ∷ role_number second ∷ role_number third ∷ role_number later ∷ [] ≡ roles_at (kind_number kind) },
 }
 
 impl Pattern {
     // The pattern of a kind.
-    pub fn of(kind: usize) -> Pattern
-        requires { (1 ≤ kind) × (kind ≤ 41) }
-        ensures { (result.kind ≡ kind) × Known result }
+    pub fn of(kind: Kind) -> Pattern
+        ensures kind { result.kind ≡ kind }
+        ensures single { result.single ≡ fixed_at (kind_number kind) }
     {
+        let Row(single, first, second, third, later) = PATTERNS[kind.number() - 1];
         Pattern {
-            kind: kind,
-            word: wide(PATTERNS[kind - 1]),
+            kind,
+            single: single as usize,
+            first,
+            second,
+            third,
+            later,
         }
     }
 
     // The role of field j.
-    pub fn role(self, j: usize) -> u16
-        requires { Known self }
-        ensures { result ≡ role_at self.kind j }
+    #[tactic(auto, unfolding(crate::specs::Patterns::role_at))]
+    pub fn role(self, j: usize) -> Role
+        ensures { role_number result ≡ role_at (kind_number self.kind) j }
     {
-        if 3 <= j {
-            return (self.word % 8) as u16;
+        match j {
+            0 => self.first,
+            1 => self.second,
+            2 => self.third,
+            _ => self.later,
         }
-        ((self.word >> (9 - 3 * j)) % 8) as u16
     }
 
-    // How many single fields a record of this kind has, before its L.
-    pub fn fixed_fields(self) -> usize
-        requires { Known self }
-        ensures { (result ≡ fixed_at self.kind) × (result ≤ 4) }
+    // Whether a record of this pattern ends in `Rest`.
+    #[tactic(auto, unfolding(crate::specs::Patterns::list_at))]
+    pub fn has_rest(self) -> bool
+        ensures { result ≡ list_at (kind_number self.kind) }
     {
-        self.word / 4096
+        matches!(self.later, Rest)
     }
 
-    // Whether a record of this kind ends in L.
-    pub fn has_list(self) -> bool
-        requires { Known self }
-        ensures { result ≡ list_at self.kind }
-    {
-        self.role(3) == L
-    }
-
-    // Whether a record of this kind may have so many fields.
+    // Whether a record of this pattern may have so many fields.
+    #[tactic(auto, unfolding(crate::specs::Patterns::fits))]
     pub fn fits(self, fields: usize) -> bool
-        requires { Known self }
-        ensures { result ≡ fits self.kind fields }
+        ensures { result ≡ fits (kind_number self.kind) fields }
     {
-        let fixed = self.fixed_fields();
-        if self.has_list() {
-            return fixed <= fields;
+        if self.has_rest() {
+            self.single <= fields
+        } else {
+            fields == self.single
         }
-        fields == fixed
     }
 }

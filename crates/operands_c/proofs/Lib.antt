@@ -1,2 +1,2 @@
 -- What a parsed instruction is.
-pub mod ParseLaws
+mod ParseLaws

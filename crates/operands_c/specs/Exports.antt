@@ -1,15 +1,12 @@
 -- The answers of the exported functions, for any kind and any bytes.
-use Rattle.std.specs.Prelude.{Bool, ◌&&◌, List, ℕ, ◌/◌, ◌%◌, eqb, leb, length}
+use Rattle.std.specs.Prelude.{◌≡◌, Bool, true, false, ◌&&◌, List, ℕ, ◌/◌, ◌%◌, eqb, leb, length, Option, Some, None, MatchOption}
 use Rattle.operands.specs.Choice.{pick}
-use Rattle.operands.specs.Patterns.{fits, word_of}
+use Rattle.operands.specs.Kinds.{kind_number}
+use Rattle.operands.specs.Patterns.{fits}
 use Rattle.operands.specs.Operands.{inputs_of, output_of, targets_of}
 use Rattle.operands.specs.Bytes.{numbers_at}
-use Rattle.operands.specs.Instructions.{nth, value_of}
+use Rattle.operands.specs.Instructions.{values_of, nth, value_of}
 use Rattle.operands.specs.declared.instruction.Instruction.{Instruction}
-use Rattle.operands.specs.declared.instruction.Value.{Value}
-use Rattle.operands.specs.declared.instruction.Value.TheVariants.{Is, Absent}
-use Rattle.operands_c.specs.declared.Parsed.{Parsed}
-use Rattle.operands_c.specs.declared.Parsed.TheVariants as parsed
 
 -- the answer where there is none: a number that no slot, target or count is
 abbrev pub nothing : ℕ
@@ -19,20 +16,19 @@ nothing = 18446744073709551615
 unfoldable pub well_formed : ℕ → List ℕ → Bool
 well_formed kind body = leb 1 kind && (leb kind 41 && (eqb (length body % 4) 0 && fits kind (length body / 4)))
 
--- the instruction of this kind whose fields are all of the bytes
-abbrev pub instruction_of : ℕ → List ℕ → Instruction
-instruction_of kind body = record { pattern = record { kind = kind; word = word_of kind }; body = 0; fields = length body / 4 }
-
-unfoldable pub parse : ℕ → List ℕ → Parsed
-parse kind body = pick (well_formed kind body) (parsed.Is (instruction_of kind body)) parsed.Bad
-
 -- the values of the fields
 abbrev pub values : List ℕ → List ℕ
 values body = numbers_at body 0 (length body / 4)
 
-abbrev pub number_of : Value → ℕ
-number_of (Is x) = x
-number_of Absent = nothing
+-- the instruction of this kind whose fields are all of the bytes
+abbrev pub Parses : ℕ → List ℕ → Option Instruction → Type 0
+Parses kind body r =
+    MatchOption r (well_formed kind body ≡ false)
+    (λ i. (well_formed kind body ≡ true) × (kind_number i.kind ≡ kind) × (values_of i ≡ values body))
+
+abbrev pub number_of : Option ℕ → ℕ
+number_of (Some x) = x
+number_of None = nothing
 
 -- how many slots the instruction reads, its k-th input, its output, how many targets it names, and the k-th
 unfoldable pub input_count : ℕ → List ℕ → ℕ

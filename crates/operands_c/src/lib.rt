@@ -3,114 +3,88 @@
 #![tactic(auto)]
 
 ghost use Rattle.std.specs.Prelude.{◌≡◌, ◌≤◌};
-ghost use Rattle.operands.specs.Instructions.{slot_in, target_in};
-ghost use Rattle.operands_c.specs.Exports.{parse, number_of, input_count, input, output, target_count, target};
+ghost use Rattle.operands_c.specs.Exports.{Parses, number_of, input_count, input, output, target_count, target};
 
-use operands::instruction::{Instruction, SlotOperand, TargetOperand};
-use operands::pattern::Pattern;
+use operands::instruction::Instruction;
+use operands::kind::Kind;
 
-const NOTHING: u64 = 18446744073709551615;
+const NOTHING: u64 = u64::MAX;
 
-// An instruction that can be read, or none.
-#[derive(Clone, Copy)]
-pub enum Parsed {
-    Is(Instruction),
-    Bad,
+// The instruction of this kind whose fields are all of the bytes.
+#[tactic(auto, unfolding(crate::specs::Exports::well_formed))]
+fn parse(kind: u64, body: &[u8]) -> Option<Instruction<'_>>
+    ensures { Parses kind body.now result }
+{
+    let kind = Kind::try_from(u16::try_from(kind).ok()?).ok()?;
+    let (fields, left) = body.as_chunks::<4>();
+    if !left.is_empty() {
+        return None;
+    }
+    Instruction::new(kind, fields)
 }
 
-fn parse(kind: u64, body: &[u8]) -> Parsed
-    ensures { result ≡ parse kind body.now }
+fn answer(number: Option<u32>) -> u64
+    ensures { result ≡ number_of number }
 {
-    if kind < 1 {
-        return Parsed::Bad;
-    }
-    if 41 < kind {
-        return Parsed::Bad;
-    }
-    if body.len() % 4 != 0 {
-        return Parsed::Bad;
-    }
-    let pattern = Pattern::of(kind as usize);
-    let fields = body.len() / 4;
-    if pattern.fits(fields) {
-        return Parsed::Is(Instruction {
-            pattern: pattern,
-            body: 0,
-            fields: fields,
-        });
-    }
-    Parsed::Bad
-}
-
-fn slot_number(o: SlotOperand) -> u64
-    ensures { result ≡ number_of (slot_in o) }
-{
-    match o {
-        SlotOperand::Is(slot) => slot.index() as u64,
-        SlotOperand::Absent => NOTHING,
-    }
-}
-
-fn target_number(o: TargetOperand) -> u64
-    ensures { result ≡ number_of (target_in o) }
-{
-    match o {
-        TargetOperand::Is(target) => target.index() as u64,
-        TargetOperand::Absent => NOTHING,
-    }
+    number.map_or(NOTHING, u64::from)
 }
 
 // How many slots the instruction reads.
 #[unsafe(no_mangle)]
+#[tactic(auto, unfolding(crate::specs::Exports::input_count))]
 pub extern "C" fn kagari_input_count(kind: u64, body: &[u8]) -> u64
     ensures { result ≡ input_count kind body.now }
 {
-    let Parsed::Is(i) = parse(kind, body) else {
+    let Some(i) = parse(kind, body) else {
         return NOTHING;
     };
-    operands::instruction::slot_input_count(body, i) as u64
+    i.input_count() as u64
 }
 
 // The k-th slot that it reads.
 #[unsafe(no_mangle)]
+#[tactic(auto, unfolding(crate::specs::Exports::input))]
 pub extern "C" fn kagari_input(kind: u64, body: &[u8], k: u64) -> u64
     ensures { result ≡ input kind body.now k }
 {
-    let Parsed::Is(i) = parse(kind, body) else {
+    let Some(i) = parse(kind, body) else {
         return NOTHING;
     };
-    slot_number(operands::instruction::slot_input(body, i, k as usize))
+    answer(i.input(k as usize).map(|slot| slot.0))
 }
 
 // The slot that it writes.
 #[unsafe(no_mangle)]
+#[tactic(auto, unfolding(crate::specs::Exports::output))]
 pub extern "C" fn kagari_output(kind: u64, body: &[u8]) -> u64
     ensures { result ≡ output kind body.now }
 {
-    let Parsed::Is(i) = parse(kind, body) else {
+    let Some(i) = parse(kind, body) else {
         return NOTHING;
     };
-    slot_number(operands::instruction::slot_output(body, i))
+    answer(i.output().map(|slot| slot.0))
 }
 
 // How many targets it names.
 #[unsafe(no_mangle)]
+#[tactic(auto, unfolding(crate::specs::Exports::target_count))]
 pub extern "C" fn kagari_target_count(kind: u64, body: &[u8]) -> u64
     ensures { result ≡ target_count kind body.now }
 {
-    let Parsed::Is(i) = parse(kind, body) else {
+    let Some(i) = parse(kind, body) else {
         return NOTHING;
     };
-    operands::instruction::target_count(body, i) as u64
+    i.target_count() as u64
 }
 
 // The k-th target that it names.
 #[unsafe(no_mangle)]
+#[tactic(auto, unfolding(crate::specs::Exports::target))]
 pub extern "C" fn kagari_target(kind: u64, body: &[u8], k: u64) -> u64
     ensures { result ≡ target kind body.now k }
 {
-    let Parsed::Is(i) = parse(kind, body) else {
+    let Some(i) = parse(kind, body) else {
         return NOTHING;
     };
-    target_number(operands::instruction::target(body, i, k as usize))
+    answer(i.target(k as usize).map(|target| target.0))
 }
