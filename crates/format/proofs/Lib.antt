@@ -1,6 +1,7 @@
--- Laws of the definitions, one for each way through the code.
+-- Laws of the definitions: one for each way through the code, and what is read in a body.
 pub mod Or
 pub mod HeadLaws
-pub mod TypeLaws
 pub mod FieldLaws
 pub mod FitLaws
+pub mod TypeLaws
+pub mod BodyLaws

@@ -1,42 +1,56 @@
--- What the code answers of heads, types and fields.
-use Rattle.std.specs.Prelude.{◌≡◌, Bool, false, ◌||◌, List, ℕ, ◌+◌, ◌≤◌, eqb, length}
+-- What the code answers of records, types and fields.
+use Rattle.std.specs.Prelude.{◌≡◌, false, List, ℕ, ◌+◌, ◌≤◌, ◌<◌, eqb, length, take, drop, Option, Some, None, Result, MatchResult}
 use Rattle.operands.specs.Choice.{pick}
 use Rattle.operands.specs.Patterns.{T, M}
-use Rattle.format.specs.declared.head.Head.{Head}
-use Rattle.format.specs.declared.head.Head.TheVariants.{Record, Short}
+use Rattle.format.specs.declared.record.Record.{Record}
+use Rattle.format.specs.declared.types.Tag.{Tag}
+use Rattle.format.specs.declared.types.Tag.TheVariants.{Absent, Other, Host, Reference, Tuple}
+use Rattle.format.specs.declared.types.NoType.{NoType}
 use Rattle.format.specs.declared.types.Typed.{Typed}
-use Rattle.format.specs.declared.types.Typed.TheVariants.{Got, BadType}
 use Rattle.format.specs.declared.fields.Faults.{Faults}
-use Rattle.format.specs.Heads.{short, kind_at, end_at}
+use Rattle.format.specs.declared.refusal.Refusal.{Refusal}
+use Rattle.format.specs.declared.refusal.Refusal.TheVariants.{BadBody, NoSuchSlot, NoSuchTarget}
+use Rattle.format.specs.Heads.{short, kind_at, end_at, body_length}
 use Rattle.format.specs.Types.{Ty, Items, inline_host, any_host, Read, got, unfit}
 use Rattle.format.specs.Fields.{bad_module, no_slot, no_target, any_field}
 
--- ---- heads
+-- ---- records
 
--- its head, as the code answers it
-unfoldable pub head_at : List ℕ → ℕ → Head
-head_at s at = pick (short s at) Short (Record (kind_at s at) (at + 4) (end_at s at))
+-- the bytes of its body
+abbrev pub body_at : List ℕ → ℕ → List ℕ
+body_at s at = take (body_length s at) (drop (at + 4) s)
 
--- what a head that was found says: the record's kind, where its body begins and where it ends, inside the sheet
-pub record Inside (s : List ℕ) (at kind body end : ℕ) : Type 0 where
+-- what a record that was found says: its kind, its body and where the next one begins, inside the sheet
+pub record IsRecord (s : List ℕ) (at : ℕ) (r : Record) : Type 0 where
   pub whole : short s at ≡ false
-  pub is_kind : kind ≡ kind_at s at
-  pub is_body : body ≡ at + 4
-  pub is_end : end ≡ end_at s at
-  pub ordered : body ≤ end
-  pub within : end ≤ length s
+  pub kind_is : r.kind ≡ kind_at s at
+  pub body_is : r.body.now ≡ body_at s at
+  pub next_is : r.next ≡ end_at s at
+  pub within : end_at s at ≤ length s
 
 -- ---- types
 
--- the code's answer: where the type ends, and whether `inline_host` accepts it
-abbrev pub typed_of : Read Ty → Typed
-typed_of (got t next) = Got next (inline_host t)
-typed_of unfit = BadType
+-- the byte that a type begins with
+abbrev pub tag_number : Tag → ℕ
+tag_number Absent = 0
+tag_number Other = 1
+tag_number Host = 2
+tag_number Reference = 3
+tag_number Tuple = 4
 
--- the same of items, after others of which one was accepted or none
-abbrev pub items_of : Bool → Read Items → Typed
-items_of h (got ts next) = Got next (h || any_host ts)
-items_of h unfit = BadType
+-- the result is the tag with this byte, or an error with a byte that no type begins with
+abbrev pub Tagged : ℕ → Result Tag NoType → Type 0
+Tagged n r = MatchResult r (λ t. tag_number t ≡ n) (λ e. (e.0 ≡ n) × (4 < n))
+
+-- the code's answer: where the type ends, and whether `inline_host` accepts it
+abbrev pub typed_of : Read Ty → Option Typed
+typed_of (got t next) = Some (record { end = next; host = inline_host t })
+typed_of unfit = None
+
+-- the same of items
+abbrev pub items_of : Read Items → Option Typed
+items_of (got ts next) = Some (record { end = next; host = any_host ts })
+items_of unfit = None
 
 -- ---- fields
 
@@ -59,3 +73,7 @@ pub record FaultsIn (k : ℕ) (v : List ℕ) (slots n : ℕ) (r : Faults) : Type
   pub modules_are : r.modules ≡ any_field bad_module k 0 v
   pub slots_are : r.slots ≡ any_field (no_slot slots) k 0 v
   pub targets_are : r.targets ≡ any_field (no_target n) k 0 v
+
+-- the first refusal that they are: 3, then 7, then 8
+abbrev pub refusal_in : Faults → Option Refusal
+refusal_in r = pick r.modules (Some BadBody) (pick r.slots (Some NoSuchSlot) (pick r.targets (Some NoSuchTarget) None))

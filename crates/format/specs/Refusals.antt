@@ -1,5 +1,5 @@
 -- The refusal table of document 01.
-use Rattle.std.specs.Prelude.{Bool, ℕ}
+use Rattle.std.specs.Prelude.{Bool, ℕ, Result, Ok, Err}
 use Rattle.std.proofs.Math.Option.{Option, none, some}
 use Rattle.operands.specs.Choice.{pick}
 use Rattle.format.specs.declared.refusal.Refusal.{Refusal}
@@ -49,3 +49,8 @@ due b r rest = pick b (some r) rest
 abbrev pub or_else : Option Refusal → Option Refusal → Option Refusal
 or_else (some r) rest = some r
 or_else none rest = rest
+
+-- the code's answer: the refusal that is due, or a
+abbrev pub answered : {A : Type 0} → Option Refusal → A → Result A Refusal
+answered (some r) a = Err r
+answered none a = Ok a

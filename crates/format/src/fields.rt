@@ -1,17 +1,27 @@
-// The fields of a record: slots, targets and module slots.
-ghost use Rattle.std.specs.Prelude.{true, ◌≡◌, ℕ, ◌+◌, ◌*◌, ◌≤◌, ◌<◌, length};
-ghost use Rattle.operands.specs.Bytes.{u32_at, numbers_at};
-ghost use Rattle.operands.specs.Instructions.{Known};
-ghost use Rattle.operands.specs.Patterns.{fits, role_at};
+// The fields of an instruction: slots, targets and module slots.
+ghost use Rattle.std.specs.Prelude.{true, ◌≡◌, ◌≤◌, ◌<◌, length, map};
+ghost use Rattle.operands.specs.Bytes.{number_in};
+ghost use Rattle.operands.specs.Kinds.{kind_number};
+ghost use Rattle.operands.specs.Roles.{role_number};
+ghost use Rattle.operands.specs.Instructions.{values_of};
 ghost use Rattle.format.specs.Fields.{bad_module, no_slot, no_target, any_above};
 ghost use Rattle.format.specs.Answers.{bound_of, Faultless, no_faults, FaultsIn};
 
-use operands::pattern::Pattern;
-use operands::slots::{AsModuleSlot, ModuleSlot};
-use operands::{instruction, pattern};
+use crate::refusal::Refusal;
+use operands::bytes;
+use operands::instruction::{ABSENT, Instruction};
+use operands::pattern::{Pattern, Role};
+use operands::slots::ModuleSlot;
+
+// How many slots a function has, and how many instructions.
+#[derive(Clone, Copy, PartialEq, Eq, Debug)]
+pub struct Counts {
+    pub slots: usize,
+    pub instructions: usize,
+}
 
 // What is wrong with the fields of an instruction.
-#[derive(Clone, Copy)]
+#[derive(Clone, Copy, PartialEq, Eq, Default, Debug)]
 pub struct Faults {
     // a module slot above 65,535
     pub modules: bool,
@@ -22,158 +32,123 @@ pub struct Faults {
 }
 
 // Whether a field is a module slot above 65,535.
-fn bad_module(role: u16, x: u32) -> bool
-    ensures { result ≡ bad_module role x }
+#[tactic(auto, unfolding(crate::specs::Fields::bad_module))]
+fn bad_module(role: Role, x: u32) -> bool
+    ensures { result ≡ bad_module (role_number role) x }
 {
-    if role != pattern::M {
-        return false;
-    }
-    let AsModuleSlot::Is(_) = ModuleSlot::new(x) else {
-        return true;
-    };
-    false
+    role == Role::Module && ModuleSlot::try_from(x).is_err()
 }
 
 // Whether a field is a slot at or above the slot count, and not absent where that may be.
-fn no_slot(role: u16, x: u32, slots: usize) -> bool
-    ensures { result ≡ no_slot slots role x }
+#[tactic(auto, unfolding(crate::specs::Fields::no_slot))]
+fn no_slot(role: Role, x: u32, slots: usize) -> bool
+    ensures { result ≡ no_slot slots (role_number role) x }
 {
-    let optional = (role == pattern::SOPT) | (role == pattern::DOPT);
-    let single = (role == pattern::D) | (role == pattern::S);
-    let slot = optional | (single | (role == pattern::L));
-    slot & ((slots <= x as usize) & !(optional & (x == instruction::ABSENT)))
+    match role {
+        Role::Output | Role::Input | Role::Rest => slots <= x as usize,
+        Role::OptionalOutput | Role::OptionalInput => slots <= x as usize && x != ABSENT,
+        Role::Nothing | Role::Target | Role::Module => false,
+    }
 }
 
 // Whether a field is a target at or above N.
-fn no_target(role: u16, x: u32, count: usize) -> bool
-    ensures { result ≡ no_target count role x }
+#[tactic(auto, unfolding(crate::specs::Fields::no_target))]
+fn no_target(role: Role, x: u32, count: usize) -> bool
+    ensures { result ≡ no_target count (role_number role) x }
 {
-    (role == pattern::T) & (count <= x as usize)
+    role == Role::Target && count <= x as usize
 }
 
-// What a field must be below: N if it is a target, 65,536 if it is a module slot, else the slot count.
-fn bound(role: u16, slots: usize, count: usize) -> usize
-    ensures { result ≡ bound_of slots count role }
+// What a field must be below: N if it is a target, 65,536 if it is a module slot, else the slot count. A `match` was tried: it becomes a jump table,
+// and the sheet checks take a twentieth longer.
+#[tactic(auto, unfolding(crate::specs::Answers::bound_of))]
+fn bound(role: Role, counts: Counts) -> usize
+    ensures { result ≡ bound_of counts.slots counts.instructions (role_number role) }
 {
-    if role == pattern::T {
-        return count;
+    if role == Role::Target {
+        counts.instructions
+    } else if role == Role::Module {
+        65536
+    } else {
+        counts.slots
     }
-    if role == pattern::M {
-        return 65536;
-    }
-    slots
 }
 
 // Whether a field is below its bound, or absent where that may be.
-fn field_fits(role: u16, x: u32, slots: usize, count: usize) -> bool
-    ensures { result ≡ true → Faultless slots count role x }
+fn field_fits(role: Role, x: u32, counts: Counts) -> bool
+    ensures { result ≡ true → Faultless counts.slots counts.instructions (role_number role) x }
 {
-    if (x as usize) < bound(role, slots, count) {
-        return true;
-    }
-    let optional = (role == pattern::SOPT) | (role == pattern::DOPT);
-    optional & (x == instruction::ABSENT)
+    (x as usize) < bound(role, counts)
+        || (x == ABSENT && matches!(role, Role::OptionalInput | Role::OptionalOutput))
 }
 
-// Whether each of the first fields of an instruction fits.
-fn first_fit(s: &[u8], p: Pattern, body: usize, first: usize, slots: usize, count: usize) -> bool
-    requires { (Known p) × (body + 4 * first ≤ length s.now) }
-    ensures { result ≡ true → (j : ℕ) → j < first → Faultless slots count (role_at p.kind j) (u32_at s.now (body + 4 * j)) }
+// Whether every field of an instruction fits: the single ones, then those of `Rest`.
+fn all_fit(i: Instruction<'_>, counts: Counts) -> bool
+    ensures { result ≡ true → FaultsIn (kind_number i.entry.kind) (values_of i.entry) counts.slots counts.instructions no_faults }
 {
-    let mut j = 0;
-    while j < first {
-        if !field_fits(
-            p.role(j),
-            instruction::u32_at(s, body + 4 * j),
-            slots,
-            count,
-        ) {
-            return false;
-        }
-        j += 1;
-    }
-    true
+    let pattern = Pattern::of(i.kind);
+    let (single, rest) = i.fields.split_at(pattern.single);
+    let single_fit = single.iter().enumerate().all(|(j, field)| field_fits(
+        pattern.role(j),
+        bytes::number(*field),
+        counts,
+    ));
+    single_fit && !any_above(rest, counts.slots)
 }
 
-// Whether every field of an instruction fits: the single ones, then those of L.
-fn all_fit(s: &[u8], p: Pattern, body: usize, fields: usize, slots: usize, count: usize) -> bool
-    requires { (Known p) × (fits p.kind fields ≡ true) × (body + 4 * fields ≤ length s.now) }
-    ensures { result ≡ true → FaultsIn p.kind (numbers_at s.now body fields) slots count no_faults }
+// What is wrong with the fields of an instruction. Only where one does not fit is each looked at for its fault.
+pub fn field_faults(i: Instruction<'_>, counts: Counts) -> Faults
+    ensures { FaultsIn (kind_number i.entry.kind) (values_of i.entry) counts.slots counts.instructions result }
 {
-    let fixed = p.fixed_fields();
-    if first_fit(s, p, body, fixed, slots, count) {
-        return !any_above(s, body + 4 * fixed, fields - fixed, slots);
+    if all_fit(i, counts) {
+        return Faults::default();
     }
-    false
-}
-
-// What is wrong with the fields of an instruction, which begin at body. Only where one does not fit is each looked at for its fault.
-pub fn field_faults(
-    s: &[u8],
-    p: Pattern,
-    body: usize,
-    fields: usize,
-    slots: usize,
-    count: usize,
-) -> Faults
-    requires { (Known p) × (fits p.kind fields ≡ true) × (body + 4 * fields ≤ length s.now) }
-    ensures { FaultsIn p.kind (numbers_at s.now body fields) slots count result }
-{
-    if all_fit(s, p, body, fields, slots, count) {
-        return Faults {
-            modules: false,
-            slots: false,
-            targets: false,
-        };
-    }
-    faults_among(s, p, body, fields, slots, count)
+    faults_among(i, counts)
 }
 
 // The same, by looking at every field.
-fn faults_among(
-    s: &[u8],
-    p: Pattern,
-    body: usize,
-    fields: usize,
-    slots: usize,
-    count: usize,
-) -> Faults
-    requires { (Known p) × (body + 4 * fields ≤ length s.now) }
-    ensures { FaultsIn p.kind (numbers_at s.now body fields) slots count result }
+#[tactic(auto, using(crate::proofs::FieldLaws::faults_end), unfolding(crate::specs::Fields::any_field))]
+fn faults_among(i: Instruction<'_>, counts: Counts) -> Faults
+    ensures { FaultsIn (kind_number i.entry.kind) (values_of i.entry) counts.slots counts.instructions result }
 {
-    let mut modules = false;
-    let mut no_slots = false;
-    let mut targets = false;
-    let mut at = body;
-    let mut j = 0;
-    while j < fields {
-        let role = p.role(j);
-        let x = instruction::u32_at(s, at);
-        modules = modules | bad_module(role, x);
-        no_slots = no_slots | no_slot(role, x, slots);
-        targets = targets | no_target(role, x, count);
-        at += 4;
-        j += 1;
+    let pattern = Pattern::of(i.kind);
+    let mut faults = Faults::default();
+    for (j, field) in i.fields.iter().enumerate() {
+        let role = pattern.role(j);
+        let x = bytes::number(*field);
+        faults.modules |= bad_module(role, x);
+        faults.slots |= no_slot(role, x, counts.slots);
+        faults.targets |= no_target(role, x, counts.instructions);
     }
-    Faults {
-        modules: modules,
-        slots: no_slots,
-        targets: targets,
-    }
+    faults
 }
 
-// Whether one of so many numbers is at or above a bound.
-pub fn any_above(s: &[u8], first: usize, count: usize, bound: usize) -> bool
-    requires { first + 4 * count ≤ length s.now }
-    ensures { result ≡ any_above bound (numbers_at s.now first count) }
+// Whether one of the numbers is at or above a bound.
+pub fn any_above(fields: &[[u8; 4]], bound: usize) -> bool
+    ensures { result ≡ any_above bound (map number_in fields.now) }
 {
-    let mut above = false;
-    let mut at = first;
-    let mut k = 0;
-    while k < count {
-        above = above | (bound <= instruction::u32_at(s, at) as usize);
-        at += 4;
-        k += 1;
+    fields.iter().fold(
+        false,
+        |above, field| above | (bound <= bytes::number(*field) as usize),
+    )
+}
+
+impl Faults {
+    ghost use Rattle.std.specs.Prelude.{◌≡◌};
+    ghost use Rattle.format.specs.Answers.{refusal_in};
+
+    // The first refusal that they are: 3, then 7, then 8.
+    pub fn refusal(self) -> Option<Refusal>
+        ensures { result ≡ refusal_in self }
+    {
+        if self.modules {
+            Some(Refusal::BadBody)
+        } else if self.slots {
+            Some(Refusal::NoSuchSlot)
+        } else if self.targets {
+            Some(Refusal::NoSuchTarget)
+        } else {
+            None
+        }
     }
-    above
 }

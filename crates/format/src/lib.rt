@@ -3,6 +3,6 @@
 
 pub mod bytes;
 pub mod fields;
-pub mod head;
+pub mod record;
 pub mod refusal;
 pub mod types;

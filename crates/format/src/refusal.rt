@@ -2,24 +2,24 @@
 ghost use Rattle.std.specs.Prelude.{◌≡◌};
 ghost use Rattle.format.specs.Refusals.{number_of};
 
-#[derive(Clone, Copy)]
+#[derive(Clone, Copy, PartialEq, Eq, Debug)]
 pub enum Refusal {
-    ShortSheet,
-    WrongKind,
-    BadBody,
-    LeftOver,
-    TooMany,
-    NoCode,
-    NoSuchSlot,
-    NoSuchTarget,
-    OpenEnd,
-    NoRoom,
-    StateLimit,
-    WorkLimit,
-    UnfilledSlot,
-    HostOverAwait,
-    FactsLimit,
-    ParameterTwice,
+    ShortSheet = 1,
+    WrongKind = 2,
+    BadBody = 3,
+    LeftOver = 4,
+    TooMany = 5,
+    NoCode = 6,
+    NoSuchSlot = 7,
+    NoSuchTarget = 8,
+    OpenEnd = 9,
+    NoRoom = 10,
+    StateLimit = 11,
+    WorkLimit = 12,
+    UnfilledSlot = 13,
+    HostOverAwait = 14,
+    FactsLimit = 15,
+    ParameterTwice = 17,
 }
 
 impl Refusal {
@@ -27,23 +27,6 @@ impl Refusal {
     pub fn number(self) -> u64
         ensures { result ≡ number_of self }
     {
-        match self {
-            Refusal::ShortSheet => 1,
-            Refusal::WrongKind => 2,
-            Refusal::BadBody => 3,
-            Refusal::LeftOver => 4,
-            Refusal::TooMany => 5,
-            Refusal::NoCode => 6,
-            Refusal::NoSuchSlot => 7,
-            Refusal::NoSuchTarget => 8,
-            Refusal::OpenEnd => 9,
-            Refusal::NoRoom => 10,
-            Refusal::StateLimit => 11,
-            Refusal::WorkLimit => 12,
-            Refusal::UnfilledSlot => 13,
-            Refusal::HostOverAwait => 14,
-            Refusal::FactsLimit => 15,
-            Refusal::ParameterTwice => 17,
-        }
+        self as u64
     }
 }

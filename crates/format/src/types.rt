@@ -1,82 +1,104 @@
-// The type of a slot: the type reader and the item-list reader, which call each other.
+// The type of a slot, read in bytes that end with its record.
 ghost use Rattle.std.specs.Prelude.{◌≡◌, ◌≤◌, length};
 ghost use Rattle.format.specs.Types.{type_at, items_at, whole_type};
-ghost use Rattle.format.specs.Answers.{typed_of, items_of};
+ghost use Rattle.format.specs.Answers.{typed_of, items_of, tag_number, Tagged};
 
-// The byte that a type begins with.
-pub const ABSENT: u8 = 0;
+// What a type begins with.
+#[derive(Clone, Copy, PartialEq, Eq, Debug)]
+pub enum Tag {
+    Absent = 0,
+    Other = 1,
+    Host = 2,
+    Reference = 3,
+    Tuple = 4,
+}
 
-pub const OTHER: u8 = 1;
+// A byte that no type begins with.
+#[derive(Clone, Copy, PartialEq, Eq, Debug)]
+pub struct NoType(pub u8);
 
-pub const HOST: u8 = 2;
-
-pub const REFERENCE: u8 = 3;
-
-pub const TUPLE: u8 = 4;
+// A type that was read: where it ends, and whether `inline_host` of flow.rs accepts it.
+#[derive(Clone, Copy, PartialEq, Eq, Debug)]
+pub struct Typed {
+    pub end: usize,
+    pub host: bool,
+}
 
 // How many tuples deep a type may be.
 pub const DEPTH: usize = 16;
 
-#[derive(Clone, Copy)]
-pub enum Typed {
-    // A type: where it ends, and whether `inline_host` of flow.rs accepts it.
-    Got(usize, bool),
-    BadType,
+impl TryFrom<u8> for Tag {
+    type Error = NoType;
+
+    ghost try_from_gives = { Tagged };
+
+    fn try_from(byte: u8) -> Result<Tag, NoType> {
+        match byte {
+            0 => Ok(Tag::Absent),
+            1 => Ok(Tag::Other),
+            2 => Ok(Tag::Host),
+            3 => Ok(Tag::Reference),
+            4 => Ok(Tag::Tuple),
+            _ => Err(NoType(byte)),
+        }
+    }
 }
 
-// The type at an offset of a record that ends at end, at most depth tuples deep. A tuple's items are read by the item-list reader.
+// The type at an offset, at most depth tuples deep.
 #[cycle(read_items_read_type)]
-pub fn read_type(s: &[u8], at: usize, end: usize, depth: usize) -> Typed
-    requires { (depth ≤ 16) × (end ≤ length s.now) }
-    ensures { result ≡ typed_of (type_at depth s.now end at) }
+#[tactic(auto, using(crate::proofs::TypeLaws::type_ended, crate::proofs::TypeLaws::leaf_type, crate::proofs::TypeLaws::type_deep, crate::proofs::TypeLaws::type_cut, crate::proofs::TypeLaws::type_tuple), unfolding(crate::specs::Types::leaf))]
+pub fn read_type(s: &[u8], at: usize, depth: usize) -> Option<Typed>
+    requires { depth ≤ 16 }
+    ensures { result ≡ typed_of (type_at depth s.now (length s.now) at) }
 {
-    if end <= at {
-        return Typed::BadType;
-    }
-    let b = s[at];
-    if b == TUPLE {
-        if depth == 0 {
-            return Typed::BadType;
+    let first = *s.get(at)?;
+    match Tag::try_from(first).ok()? {
+        Tag::Absent => None,
+        Tag::Other => Some(Typed {
+            end: at + 1,
+            host: false,
+        }),
+        Tag::Host | Tag::Reference => Some(Typed {
+            end: at + 1,
+            host: true,
+        }),
+        Tag::Tuple => {
+            if depth == 0 {
+                return None;
+            }
+            let count = *s.get(at + 1)?;
+            read_items(s, count, at + 2, depth - 1)
         }
-        if end <= at + 1 {
-            return Typed::BadType;
-        }
-        return read_items(s, s[at + 1], at + 2, end, depth - 1, false);
     }
-    if b < OTHER {
-        return Typed::BadType;
-    }
-    if b <= REFERENCE {
-        return Typed::Got(at + 1, (b == HOST) | (b == REFERENCE));
-    }
-    Typed::BadType
 }
 
-// So many types, one after the other, each by the type reader. Host tells whether one before them was accepted by `inline_host`.
+// So many types, one after the other: where the last one ends, and whether `inline_host` accepts one of them.
 #[cycle(read_items_read_type)]
-pub fn read_items(s: &[u8], left: u8, at: usize, end: usize, depth: usize, host: bool) -> Typed
-    requires { (depth ≤ 16) × (end ≤ length s.now) }
-    ensures { result ≡ items_of host (items_at (λ a. type_at depth s.now end a) left at) }
+#[tactic(auto, using(crate::proofs::TypeLaws::items_more, crate::proofs::TypeLaws::items_stop, crate::proofs::TypeLaws::items_end))]
+pub fn read_items(s: &[u8], count: u8, at: usize, depth: usize) -> Option<Typed>
+    requires { depth ≤ 16 }
+    ensures { result ≡ items_of (items_at (λ a. type_at depth s.now (length s.now) a) count at) }
 {
-    if left == 0 {
-        return Typed::Got(at, host);
+    let mut end = at;
+    let mut host = false;
+    for _ in 0..count {
+        let item = read_type(s, end, depth)?;
+        end = item.end;
+        host |= item.host;
     }
-    let Typed::Got(next, h) = read_type(s, at, end, depth) else {
-        return Typed::BadType;
-    };
-    read_items(s, left - 1, next, end, depth, host | h)
+    Some(Typed { end, host })
 }
 
 // A whole type: absent, or a type at most 16 tuples deep.
-pub fn whole_type(s: &[u8], at: usize, end: usize) -> Typed
-    requires { end ≤ length s.now }
-    ensures { result ≡ typed_of (whole_type s.now end at) }
+#[tactic(auto, using(crate::proofs::TypeLaws::whole_absent, crate::proofs::TypeLaws::whole_deep))]
+pub fn whole_type(s: &[u8], at: usize) -> Option<Typed>
+    ensures { result ≡ typed_of (whole_type s.now (length s.now) at) }
 {
-    if end <= at {
-        return Typed::BadType;
+    if s.get(at) == Some(&(Tag::Absent as u8)) {
+        return Some(Typed {
+            end: at + 1,
+            host: false,
+        });
     }
-    if s[at] == ABSENT {
-        return Typed::Got(at + 1, false);
-    }
-    read_type(s, at, end, DEPTH)
+    read_type(s, at, DEPTH)
 }

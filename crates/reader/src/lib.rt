@@ -1,49 +1,74 @@
-// A reader that holds a sheet and a position, above the checks of one record.
+// A reader of a sheet, above the checks of one record.
 #![tactic(auto)]
 
-ghost use Rattle.std.specs.Prelude.{◌≡◌};
-ghost use Rattle.records.specs.Records.{plain_run};
-ghost use Rattle.reader.specs.Steps.{due_step};
-
+use format::fields::Counts;
+use format::refusal::Refusal;
+use format::types::Tag;
+use operands::kind::Kind;
 use records::record;
-use records::record::Step;
 
-// A sheet and a position in it.
+// A sheet and a position in it. Each method reads a record there: if it passes, the reader stands behind it, else where it stood.
 #[derive(Clone, Copy)]
 pub struct Reader<'a> {
     pub sheet: &'a [u8],
     pub at: usize,
 }
 
-pub fn new<'a>(sheet: &'a [u8], at: usize) -> Reader<'a>
-    ensures { (result.sheet ≡ sheet.entry) × (result.at ≡ at) }
-{
-    Reader { sheet, at }
-}
+impl<'a> Reader<'a> {
+    ghost use Rattle.std.specs.Prelude.{◌≡◌, ◌+◌, ◌*◌};
+    ghost use Rattle.format.specs.Answers.{tag_number};
+    ghost use Rattle.records.specs.Records.{plain_run};
+    ghost use Rattle.reader.specs.Steps.{ReadsFunction, ReadsParameters, ReadsSlot, ReadsInstruction};
 
-// The record of the kind that is due at the reader's position.
-pub fn due<'a>(r: Reader<'a>, kind: usize, slots: usize, count: usize) -> Step
-    ensures { result ≡ due_step r.entry.sheet.now kind slots count r.entry.at }
-{
-    record::due_record(r.sheet, kind, slots, count, r.at)
-}
+    // A reader at a position of a sheet.
+    pub fn new(sheet: &'a [u8], at: usize) -> Reader<'a>
+        ensures { (result.sheet ≡ sheet.entry) × (result.at ≡ at) }
+    {
+        Reader { sheet, at }
+    }
 
-// How many plain slot records with types up to this one stand one after the other from the reader's position on, at most so many.
-pub fn plain_slots<'a>(r: Reader<'a>, top: usize, most: usize) -> usize
-    ensures { result ≡ plain_run r.entry.sheet.now top r.entry.at most }
-{
-    record::plain_slots(r.sheet, top, most, r.at)
-}
+    // The function record.
+    pub fn function(&mut self) -> Result<(), Refusal>
+        ensures { ReadsFunction self.old self.new result }
+    {
+        self.at = record::function_record(self.sheet, self.at)?;
+        Ok(())
+    }
 
-// The same for a caller that keeps a slice and a position. Each makes a reader and passes it on; its own signature is plain.
-pub fn due_at(s: &[u8], kind: usize, slots: usize, count: usize, at: usize) -> Step
-    ensures { result ≡ due_step s.now kind slots count at }
-{
-    due(new(s, at), kind, slots, count)
-}
+    // The parameter record of a function with so many slots.
+    pub fn parameters(&mut self, slots: usize) -> Result<(), Refusal>
+        ensures { ReadsParameters slots self.old self.new result }
+    {
+        self.at = record::parameter_record(self.sheet, self.at, slots)?;
+        Ok(())
+    }
 
-pub fn plain_slots_at(s: &[u8], top: usize, most: usize, at: usize) -> usize
-    ensures { result ≡ plain_run s.now top at most }
-{
-    plain_slots(new(s, at), top, most)
+    // A slot record.
+    pub fn slot(&mut self) -> Result<(), Refusal>
+        ensures { ReadsSlot self.old self.new result }
+    {
+        self.at = record::slot_record(self.sheet, self.at)?;
+        Ok(())
+    }
+
+    // An instruction record, of which it answers the kind.
+    pub fn instruction(&mut self, counts: Counts) -> Result<Kind, Refusal>
+        ensures { ReadsInstruction counts self.old self.new result }
+    {
+        let code = record::instruction_record(self.sheet, self.at, counts)?;
+        self.at = code.next;
+        Ok(code.kind)
+    }
+
+    // The plain slot records with types up to this one, at most so many: how many they are.
+    #[tactic(auto, using(records::proofs::RunLaws::plain_run_inside))]
+    pub fn plain_slots(&mut self, top: Tag, most: usize) -> usize
+        ensures count { result ≡ plain_run self.old.sheet.now (tag_number top) self.old.at most }
+        ensures sheet { self.new.sheet ≡ self.old.sheet }
+        ensures at { self.new.at ≡ self.old.at + 6 * result }
+    {
+        let plain = record::plain_slots(self.sheet, top, most, self.at);
+        self.at += 6 * plain;
+        plain
+    }
 }

@@ -86,13 +86,13 @@ pub record SlotPassed (s : List ℕ) (at : ℕ) : Type 0 where
 pub slot-passed : (s : List ℕ) (at : ℕ) → slot_fault s at ≡ none → SlotPassed s at
 unfolding slot_fault bad_slot
 slot-passed s at e =
+    let q : at + 5 ≡ at + 4 + 1 = omega arith in
     let a = none-due _ ShortSheet _ e in
     let b = none-due _ WrongKind _ a.1 in
     let c = none-due _ BadBody _ b.1 in
     let t = not (ends_with (end_at s at) (whole_type s (end_at s at) (at + 4 + 1))) in
     let f = or_none (leb (end_at s at) (at + 4)) (ltb 12 (get_or s (at + 4) 0) || t) c.0 in
     let g = or_none (ltb 12 (get_or s (at + 4) 0)) t f.1 in
-    let q : at + 5 ≡ at + 4 + 1 = omega arith in
     record {
       whole = a.0;
       kind = eqb-true _ _ (not-false _ b.0);

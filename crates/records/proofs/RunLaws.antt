@@ -3,7 +3,6 @@ use mathlib.Core.Path.{◌≡◌, refl, sym, ◌∙◌}
 use mathlib.Core.Bool.{Bool, true, false}
 use mathlib.Core.List.{List}
 use Prim.Native.Nat.{ℕ, zero, suc, ◌+◌, ◌*◌, ◌-◌, ◌/◌, ◌≤◌, ◌<◌, min, max}
-use native.Mathlib.Nat.{zero-add}
 use native.Mathlib.Omega.{arith}
 use borrow.Author.Tests.{ltb-true, ltb-false}
 use lib.Dec.{ltb}
@@ -43,15 +42,8 @@ module _ (s : List ℕ) (top : ℕ) where
       go true b h = let i = (plain s top at b).inside in omega arith
       go false b h = omega arith
 
--- the loop over a run: at its start, after a record that is plain, and its three ends
+-- the loop over a run: after a record that is plain, and its three ends
 module _ (s : List ℕ) (top at most : ℕ) where
-  pub plain_run_start : plain_run s top at most ≡ 0 + plain_run s top (at + 6 * 0) (most - 0)
-  plain_run_start =
-      let p : at ≡ at + 6 * 0 = omega arith in
-      let q : most ≡ most - 0 = omega arith in
-      let z : plain_run s top at most ≡ plain_run s top (at + 6 * 0) (most - 0) = cc in
-      z ∙ sym (zero-add (plain_run s top (at + 6 * 0) (most - 0)))
-
   pub plain_run_far : length s < at → 0 ≡ plain_run s top at most
   plain_run_far h = sym (plain_run_none s top at most (plain_short s top at (omega arith)))
 

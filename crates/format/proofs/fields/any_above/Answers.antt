@@ -1,30 +1,15 @@
--- `format::fields::any_above` meets its contract. Assumes nothing.
-use Rattle.std.proofs.Common.{ap, sym, ◌∙◌, arith, leb}
-use Rattle.operands.specs.Bytes.{numbers_at}
-use Rattle.format.proofs.FieldLaws.{fields_start, fields_more, fields_end, above-field}
+use Rattle.std.proofs.Common.{rules, ◌≡◌, ◌∙◌, refl, ap, Bool, false, ◌||◌, List, ℕ, leb, map}
+use Rattle.std.proofs.lemmas.Fn.{fold_over, slice_gives, fronts}
+use Rattle.operands.specs.Bytes.{number_in}
+use Rattle.format.specs.Fields.{any_above}
+use Rattle.format.proofs.FieldLaws.{above_more}
 use Rattle.format.proofs.fields.any_above.Goals as goal
 
-pub loop-k-init : goal.loop-k-init
-loop-k-init c =
-    let a = c.args in (
-      omega arith,
-      omega arith,
-      above-field a.bound 0 0 (numbers_at a.s.now a.first a.count)
-          ∙ fields_start (λ role x. leb a.bound x) a.s.now 0 a.first a.count,
-    )
-
-pub loop-k-preserved : goal.loop-k-preserved
-loop-k-preserved c =
-    let a = c.args in
-    let l = c.loop-k in (
-      omega arith,
-      omega arith,
-      l.invariant.2 ∙ fields_more (λ role x. leb a.bound x) a.s.now 0 l.at l.k a.count l.above
-          (leb a.bound c.u32_at.result) (omega arith) (ap (leb a.bound) c.u32_at.ensures),
-    )
-
 pub returns : goal.returns
+unfolding any_above
 returns c =
-    let a = c.args in
-    let l = c.loop-k in
-    sym (l.invariant.2 ∙ fields_end (λ role x. leb a.bound x) a.s.now 0 l.at l.k a.count l.above (omega arith))
+    let n = c.args.bound in
+    let e : c.fold.result ≡ any_above n (map number_in c.iter.result.rest.now) = fold_over fronts (λ x. x.now) _ (λ (ys : List (List ℕ)) (a : Bool). a ≡ any_above n (map number_in ys)) _
+    (λ ys a x b f' h k. let e : b ≡ (a || leb n (number_in x.now)) = search rules in (e ∙ ap (λ (t : Bool). t || leb n (number_in x.now)) h ∙ above_more n (number_in x.now) ys x.now refl, search rules))
+    c.iter.result c.iter.result.rest.now false c.fold.result (slice_gives c.iter.result) refl c.fold.ensures.ran in
+    rw c.iter.ensures.rest at e
