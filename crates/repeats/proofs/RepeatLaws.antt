@@ -1,93 +1,61 @@
 -- Laws of repeats: from the front of a list, and from a set of those seen before. Assumes nothing.
 use mathlib.Core.Path.{◌≡◌, refl, ap, ap₂, ◌∙◌}
 use mathlib.Core.Bool.{Bool, true, false, ◌||◌}
-use mathlib.Core.List.{List, [], ◌∷◌}
-use Prim.Native.Nat.{ℕ, zero, suc, ◌+◌, ◌*◌, ◌-◌, ◌/◌, ◌<◌}
+use mathlib.Core.List.{List, [], ◌∷◌, map}
+use Prim.Native.Nat.{ℕ, zero, suc, ◌+◌, ◌*◌, ◌/◌, ◌≤◌, ◌<◌}
 use native.Mathlib.Omega.{arith}
-use borrow.Author.Tests.{eq-eqb, ne_eqb}
 use lib.Dec.{eqb}
-use lib.ListN.{length, replicate}
+use lib.ListN.{length, get_or, drop, replicate}
+use Rattle.std.specs.List.{list_any}
+use Rattle.std.proofs.lemmas.List.{at_drop_more, at_drop_all}
 use Rattle.bitset.specs.Below.{AllBelow}
 use Rattle.bitset.specs.Sets.{member}
 use Rattle.bitset.specs.Operations.{inserted}
-use Rattle.bitset.specs.Rows.{inserted_at}
 use Rattle.bitset.proofs.SetLaws.{member-zero, member_inserted, length_inserted}
-use Rattle.operands.specs.Bytes.{u32_at, numbers_at}
+use Rattle.operands.specs.Bytes.{number_in}
 use Rattle.operands.specs.Patterns.{among}
 use Rattle.repeats.specs.Repeats.{any_twice}
 use Rattle.repeats.specs.Seen.{twice_seen}
 
--- the first of some numbers, and the others
-pub numbers-cons : (s : List ℕ) (at n : ℕ) → 0 < n → numbers_at s at n ≡ u32_at s at ∷ numbers_at s (at + 4) (n - 1)
-unfolding numbers_at
-numbers-cons s at zero lt = absurd (omega arith)
-numbers-cons s at (suc n) lt = let e : n ≡ suc n - 1 = omega arith in ap (λ (k : ℕ). u32_at s at ∷ numbers_at s (at + 4) k) e
+-- a number among others, as a test of each finds it
+pub among_any : (x : ℕ) (l : List (List ℕ)) → list_any (λ b. eqb x (number_in b)) l ≡ among x (map number_in l)
+among_any x [] = refl
+among_any x (b ∷ l) = ap (λ (t : Bool). eqb x (number_in b) || t) (among_any x l)
 
-pub numbers-none : (s : List ℕ) (at n : ℕ) → n ≡ 0 → numbers_at s at n ≡ []
-unfolding numbers_at
-numbers-none s at zero e = refl
-numbers-none s at (suc n) e = absurd (omega (arith, e))
+module _ (l : List (List ℕ)) (i : ℕ) where
+  -- a repeat in what is left of a list, behind its first and at its end
+  pub twice_more : i < length l → any_twice (map number_in (drop i l))
+      ≡ (among (number_in (get_or l i [])) (map number_in (drop (i + 1) l)) || any_twice (map number_in (drop (i + 1) l)))
+  unfolding any_twice
+  twice_more h = at_drop_more (λ xs. any_twice (map number_in xs)) l i [] h
 
--- ---- from the front
+  pub twice_end : length l ≤ i → any_twice (map number_in (drop i l)) ≡ false
+  unfolding any_twice
+  twice_end h = at_drop_all (λ xs. any_twice (map number_in xs)) l i h
 
--- x among some numbers: it is the first, it is not, or there is none
-pub among-yes : (s : List ℕ) (at n x : ℕ) → 0 < n → x ≡ u32_at s at → among x (numbers_at s at n) ≡ true
-among-yes s at n x lt e =
-    ap (among x) (numbers-cons s at n lt) ∙ ap (λ (t : Bool). t || among x (numbers_at s (at + 4) (n - 1))) (eq-eqb x (u32_at s at) e)
+  module _ (ws : List ℕ) where
+    -- and a set of those seen before
+    pub seen_more : i < length l → twice_seen ws (map number_in (drop i l))
+        ≡ (member ws (number_in (get_or l i [])) || twice_seen (inserted ws (number_in (get_or l i []))) (map number_in (drop (i + 1) l)))
+    unfolding twice_seen
+    seen_more h = at_drop_more (λ xs. twice_seen ws (map number_in xs)) l i [] h
 
-pub among-no : (s : List ℕ) (at n x : ℕ) → 0 < n → (x ≡ u32_at s at → ⊥) → among x (numbers_at s at n) ≡ among x (numbers_at s (at + 4) (n - 1))
-among-no s at n x lt e =
-    ap (among x) (numbers-cons s at n lt) ∙ ap (λ (t : Bool). t || among x (numbers_at s (at + 4) (n - 1))) (ne_eqb x (u32_at s at) e)
+    pub seen_end : length l ≤ i → twice_seen ws (map number_in (drop i l)) ≡ false
+    unfolding twice_seen
+    seen_end h = at_drop_all (λ xs. twice_seen ws (map number_in xs)) l i h
 
-pub among-end : (s : List ℕ) (at n x : ℕ) → n ≡ 0 → among x (numbers_at s at n) ≡ false
-among-end s at n x e = ap (among x) (numbers-none s at n e)
-
--- a repeat: of the first, behind it, or there is none
-pub twice-yes : (s : List ℕ) (at n : ℕ) → 0 < n → among (u32_at s at) (numbers_at s (at + 4) (n - 1)) ≡ true → any_twice (numbers_at s at n) ≡ true
-unfolding any_twice
-twice-yes s at n lt e = ap any_twice (numbers-cons s at n lt) ∙ ap (λ (t : Bool). t || any_twice (numbers_at s (at + 4) (n - 1))) e
-
-pub twice-no : (s : List ℕ) (at n : ℕ) → 0 < n → among (u32_at s at) (numbers_at s (at + 4) (n - 1)) ≡ false
-    → any_twice (numbers_at s at n) ≡ any_twice (numbers_at s (at + 4) (n - 1))
-unfolding any_twice
-twice-no s at n lt e = ap any_twice (numbers-cons s at n lt) ∙ ap (λ (t : Bool). t || any_twice (numbers_at s (at + 4) (n - 1))) e
-
-pub twice-end : (s : List ℕ) (at n : ℕ) → n ≡ 0 → any_twice (numbers_at s at n) ≡ false
-unfolding any_twice
-twice-end s at n e = ap any_twice (numbers-none s at n e)
-
--- ---- a set of those seen before
-
-pub seen-yes : (ws s : List ℕ) (at n : ℕ) → 0 < n → member ws (u32_at s at) ≡ true → twice_seen ws (numbers_at s at n) ≡ true
-unfolding twice_seen
-seen-yes ws s at n lt e = ap (twice_seen ws) (numbers-cons s at n lt)
-    ∙ ap (λ (t : Bool). t || twice_seen (inserted ws (u32_at s at)) (numbers_at s (at + 4) (n - 1))) e
-
-pub seen_no : (ws s : List ℕ) (at n : ℕ) → 0 < n → member ws (u32_at s at) ≡ false
-    → twice_seen ws (numbers_at s at n) ≡ twice_seen (inserted ws (u32_at s at)) (numbers_at s (at + 4) (n - 1))
-unfolding twice_seen
-seen_no ws s at n lt e = ap (twice_seen ws) (numbers-cons s at n lt)
-    ∙ ap (λ (t : Bool). t || twice_seen (inserted ws (u32_at s at)) (numbers_at s (at + 4) (n - 1))) e
-
-pub seen_end : (ws s : List ℕ) (at n : ℕ) → n ≡ 0 → twice_seen ws (numbers_at s at n) ≡ false
-unfolding twice_seen
-seen_end ws s at n e = ap (twice_seen ws) (numbers-none s at n e)
-
--- the set at the front of a slice
-pub inserted-front : (ws : List ℕ) (x : ℕ) → inserted_at ws 0 x ≡ inserted ws x
-unfolding inserted_at
-inserted-front ws x = refl
+-- each number of a list below a bound
+pub number_below : (m : ℕ) (l : List (List ℕ)) (i : ℕ) → i < length l → AllBelow m (map number_in l) → number_in (get_or l i []) < m
+number_below m [] i h a = absurd (omega arith)
+number_below m (b ∷ l) zero h a = a.0
+number_below m (b ∷ l) (suc i) h a = number_below m l i (omega arith) a.1
 
 -- one more in the set: the bound stays
-pub below-inserted : (ws : List ℕ) (x : ℕ) (l : List ℕ) → AllBelow (64 * length ws) l → AllBelow (64 * length (inserted ws x)) l
+below-inserted : (ws : List ℕ) (x : ℕ) (l : List ℕ) → AllBelow (64 * length ws) l → AllBelow (64 * length (inserted ws x)) l
 below-inserted ws x l b = rw (length_inserted ws x) b
 
--- the first of some numbers below a bound, and the others
-pub below-first : (m : ℕ) (s : List ℕ) (at n : ℕ) → 0 < n → AllBelow m (numbers_at s at n) → (u32_at s at < m) × AllBelow m (numbers_at s (at + 4) (n - 1))
-below-first m s at n lt b = rw (numbers-cons s at n lt) at b
-
 -- whether one of the numbers is in a set
-abbrev pub any_member : List ℕ → List ℕ → Bool
+abbrev any_member : List ℕ → List ℕ → Bool
 any_member ws [] = false
 any_member ws (x ∷ xs) = member ws x || any_member ws xs
 

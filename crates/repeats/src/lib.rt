@@ -1,65 +1,39 @@
 // Whether a number stands twice in a list of numbers of a sheet: 17, parameter twice.
 #![tactic(auto)]
 
-ghost use Rattle.std.specs.Prelude.{◌≡◌, false, ◌+◌, ◌*◌, ◌≤◌, length};
+ghost use Rattle.std.specs.Prelude.{◌≡◌, map};
 ghost use Rattle.bitset.specs.Below.{AllBelow};
-ghost use Rattle.operands.specs.Bytes.{numbers_at};
-ghost use Rattle.operands.specs.Patterns.{among};
+ghost use Rattle.operands.specs.Bytes.{number_in};
 ghost use Rattle.repeats.specs.Repeats.{any_twice};
-ghost use Rattle.repeats.specs.Seen.{twice_seen};
 
-use operands::instruction;
+use operands::bytes;
 
 // Up to so many numbers, each is compared with those behind it, which costs less than a map.
-const FEW: usize = 32;
+const FEW: usize = 24;
 
 // A map has a bit for each number below this.
 const MAPPED: usize = 65536;
 
-// Of so many numbers, which stand from an offset on and are below a bound: whether one of them stands there twice. Above 65,536 no function has
-// slots, so only then, which no caller asks for, many numbers are compared one by one.
-pub fn any_twice(s: &[u8], first: usize, count: usize, bound: usize) -> bool
-    requires { (first + 4 * count ≤ length s.now) × AllBelow bound (numbers_at s.now first count) }
-    ensures { result ≡ any_twice (numbers_at s.now first count) }
+// Whether one of the numbers, which are below a bound, stands there twice. Above 65,536 no function has slots, so only then, which no caller asks for,
+// many numbers are compared one by one.
+pub fn any_twice(numbers: &[[u8; 4]], bound: usize) -> bool
+    requires { AllBelow bound (map number_in numbers.now) }
+    ensures { result ≡ any_twice (map number_in numbers.now) }
 {
-    if count <= FEW {
-        return by_pairs(s, first, count);
+    if numbers.len() <= FEW || MAPPED < bound {
+        return by_pairs(numbers);
     }
-    if MAPPED < bound {
-        return by_pairs(s, first, count);
-    }
-    by_map(s, first, count)
-}
-
-// Whether a number is among those from an offset on.
-fn is_among(s: &[u8], first: usize, count: usize, x: u32) -> bool
-    requires { first + 4 * count ≤ length s.now }
-    ensures { result ≡ among x (numbers_at s.now first count) }
-{
-    let mut at = first;
-    let mut left = count;
-    while 0 < left {
-        if x == instruction::u32_at(s, at) {
-            return true;
-        }
-        at += 4;
-        left -= 1;
-    }
-    false
+    by_map(numbers)
 }
 
 // Each number compared with those behind it.
-fn by_pairs(s: &[u8], first: usize, count: usize) -> bool
-    requires { first + 4 * count ≤ length s.now }
-    ensures { result ≡ any_twice (numbers_at s.now first count) }
+fn by_pairs(numbers: &[[u8; 4]]) -> bool
+    ensures { result ≡ any_twice (map number_in numbers.now) }
 {
-    let mut at = first;
-    let mut left = count;
-    while 0 < left {
-        let x = instruction::u32_at(s, at);
-        at += 4;
-        left -= 1;
-        if is_among(s, at, left, x) {
+    for (i, number) in numbers.iter().enumerate() {
+        let x = bytes::number(*number);
+        let behind = &numbers[i + 1..];
+        if behind.iter().any(|other| x == bytes::number(*other)) {
             return true;
         }
     }
@@ -67,29 +41,17 @@ fn by_pairs(s: &[u8], first: usize, count: usize) -> bool
 }
 
 // Each number looked up in a map of those before it: in linear time, whatever the numbers are.
-fn by_map(s: &[u8], first: usize, count: usize) -> bool
-    requires { (first + 4 * count ≤ length s.now) × AllBelow 65536 (numbers_at s.now first count) }
-    ensures { result ≡ any_twice (numbers_at s.now first count) }
+fn by_map(numbers: &[[u8; 4]]) -> bool
+    requires { AllBelow 65536 (map number_in numbers.now) }
+    ensures { result ≡ any_twice (map number_in numbers.now) }
 {
     let mut seen = [0u64; 1024];
-    scan(s, first, count, &mut seen)
-}
-
-// Whether one of the numbers is in the map or stands twice; the map takes them up.
-fn scan(s: &[u8], first: usize, count: usize, seen: &mut [u64]) -> bool
-    requires { (first + 4 * count ≤ length s.now) × AllBelow (64 * length seen.old) (numbers_at s.now first count) }
-    ensures { result ≡ twice_seen seen.old (numbers_at s.now first count) }
-{
-    let mut at = first;
-    let mut left = count;
-    while 0 < left {
-        let x = instruction::u32_at(s, at) as usize;
-        if bitset::contains(seen, 0, x) {
+    for number in numbers {
+        let x = bytes::number(*number) as usize;
+        if bitset::contains(&seen, x) {
             return true;
         }
-        bitset::insert(seen, 0, x);
-        at += 4;
-        left -= 1;
+        bitset::insert(&mut seen, x);
     }
     false
 }

@@ -1,23 +1,17 @@
 -- The stages together answer what `decode` says. Assumes nothing.
 use mathlib.Core.Path.{◌≡◌, refl, ap, sym, ◌∙◌}
-use mathlib.Core.Bool.{◌||◌}
 use mathlib.Core.List.{List, ◌++◌}
 use mathlib.Core.Option.{Option, none, some}
-use Prim.Native.Nat.{ℕ, zero, suc, ◌+◌, ◌-◌, ◌≤◌}
+use Prim.Native.Nat.{ℕ, zero, suc}
 use native.Mathlib.Omega.{arith}
-use borrow.Author.Tests.{eqb-false}
-use lib.Dec.{eqb, ltb}
 use lib.ListN.{replicate}
-use Rattle.operands.specs.Kinds.{is_await}
+use Rattle.std.specs.Prelude.{Result, Ok, Err, MatchResult, IsErrAnd}
+use Rattle.std.proofs.lemmas.Result.{err_from_is_err_and}
 use Rattle.format.specs.declared.refusal.Refusal.{Refusal}
-use Rattle.format.specs.declared.refusal.Refusal.TheVariants.{TooMany, NoCode}
-use Rattle.format.specs.Refusals.{due, or_else}
-use Rattle.format.specs.Heads.{kind_at, end_at, fields_at}
-use Rattle.records.specs.Records.{function_fault, parameter_slots_fault, repeat_fault, parameters_fault, slot_fault, instruction_fault}
-use Rattle.records.proofs.Passed.{none-due}
-use Rattle.sheet.specs.declared.script.Script.{Script}
-use Rattle.sheet.specs.declared.script.Checked.{Checked}
-use Rattle.sheet.specs.declared.script.Checked.TheVariants.{Passed, Refused}
+use Rattle.format.specs.Refusals.{or_else, answered}
+use Rattle.format.specs.Heads.{end_at}
+use Rattle.records.specs.Records.{function_fault, parameters_fault, slot_fault, instruction_fault}
+use Rattle.sheet.specs.declared.script.Refused.{Refused}
 use Rattle.sheet.specs.Decode.{
   id_in,
   slots_in,
@@ -33,7 +27,6 @@ use Rattle.sheet.specs.Decode.{
   parameters_at,
   slots_at,
   code_at,
-  instruction_at,
   end_fault,
   refusal,
   id_of,
@@ -41,9 +34,11 @@ use Rattle.sheet.specs.Decode.{
   records_from,
   parts_of,
 }
-use Rattle.sheet.specs.Stages.{first_of, last_kind, awaits_from, one_if, answer, with_code, at_end, at_code, at_slots, at_repeats, at_parameters, at_sizes}
-use Rattle.sheet.specs.Scripts.{host_words, awaits_in, script_of, checked_by, checked_of}
+use Rattle.sheet.specs.Scripts.{awaits_in, script_of, checked_by, checked_of}
+use Rattle.sheet.specs.Code.{no_code, code_from}
+use Rattle.sheet.specs.Stages.{first_of, last_fault, rest_fault, script_from}
 use Rattle.sheet.proofs.WalkLaws.{or_first}
+use Rattle.sheet.proofs.CodeLaws.{awaits_are}
 
 -- records of one sort, and then others
 same_first : (s : List ℕ) (d : Due) (ds : List Due) (at n : ℕ)
@@ -82,90 +77,50 @@ by_sorts s =
     ∙ ap (or_else (slots_fault s)) (only-first s instruction (code_at s) (count_in s)))
     ∙ ap (or_else (parameters_fault s (slots_in s) (parameters_at s))) (or_first (slots_fault s) (code_fault s) (end_fault s)))
 
--- the last kind, and the awaits
-last-is : (s : List ℕ) (at n k : ℕ) → 1 ≤ n → last_kind s at n k ≡ kind_at s (offset_of s at (n - 1))
-unfolding last_kind offset_of
-last-is s at zero k h = absurd (omega arith)
-last-is s at (suc zero) k h = refl
-last-is s at (suc (suc n)) k h =
-    let q : suc (suc n) - 1 ≡ suc (suc n - 1) = omega arith in
-    last-is s (end_at s at) (suc n) (kind_at s at) (omega arith) ∙ rw q
+-- the scripts are the same
+same_script : (s : List ℕ) → script_from s (id_in s) (slots_in s) (count_in s) (parameters_at s) ≡ script_of s
+unfolding script_from script_of parts_of
+same_script s =
+    let q : (code_from s (code_at s) (count_in s) no_code).awaits ≡ awaits_in (records_from (instruction_of s) s (code_at s) (count_in s)) =
+    awaits_are s (code_at s) (count_in s) no_code ∙ omega arith in
+    rw q
 
-awaits_are : (s : List ℕ) (at n : ℕ) → awaits_from s at n ≡ awaits_in (records_from (instruction_of s) s at n)
-unfolding awaits_from awaits_in records_from
-awaits_are s at zero = refl
-awaits_are s at (suc n) = ap (λ (m : ℕ). one_if (is_await (kind_at s at)) + m) (awaits_are s (end_at s at) n)
+-- an answer, with the function id if it is a refusal
+abbrev pub with_id : {A : Type 0} → ℕ → Result A Refusal → Result A Refused
+with_id id (Ok a) = Ok a
+with_id id (Err r) = Err (record { why = r; id = id })
 
--- a refusal, or what follows it
-or_answer : (f rest : Option Refusal) (id : ℕ) (x : Script) → checked_by (or_else f rest) id x ≡ answer f id (checked_by rest id x)
-or_answer none rest id x = refl
-or_answer (some r) rest id x = refl
-
-last-answer : (f : Option Refusal) (id : ℕ) (x : Script) → checked_by f id x ≡ answer f id (Passed x)
-last-answer none id x = refl
-last-answer (some r) id x = refl
-
--- two refusals, one after the other
-answer-or : (f g : Option Refusal) (id : ℕ) (r : Checked) → answer f id (answer g id r) ≡ answer (or_else f g) id r
-answer-or none g id r = refl
-answer-or (some q) g id r = refl
-
--- sizes that fit
-pub some_code : (slots n : ℕ) → sizes_fault slots n ≡ none → 1 ≤ n
-unfolding sizes_fault
-some_code slots n e =
-    let a = none-due (ltb 65536 slots || ltb 65536 n) TooMany (due (eqb n 0) NoCode none) e in
-    let b = none-due (eqb n 0) NoCode none a.1 in
-    positive n (eqb-false n 0 b.0)
-  where
-    positive : (m : ℕ) → (m ≡ 0 → ⊥) → 1 ≤ m
-    positive zero z = absurd (z refl)
-    positive (suc m) z = omega arith
+-- which is what `map_err` makes of it
+pub mapped : {A : Type 0} {Q : Refusal → Refused → Type 0} (id : ℕ) (x : Result A Refusal) (y : Result A Refused)
+    → MatchResult x (λ a. y ≡ Ok a) (λ r. IsErrAnd y (Q r)) → ((r : Refusal) (e : Refused) → Q r e → e ≡ record { why = r; id = id }) → y ≡ with_id id x
+mapped id (Ok a) y m f = m
+mapped id (Err r) y m f = let p = err_from_is_err_and y m in p.1 ∙ ap Err (f r p.0 p.2)
 
 module _ (s : List ℕ) where
-  -- after the last record
-  ended : 1 ≤ count_in s
-      → at_end s (with_code (script_of s) (code_at s) (host_words s (slots_at s) (slots_in s) 0 0) (awaits_from s (code_at s) (count_in s)))
-      (instruction_at s (count_in s)) (last_kind s (code_at s) (count_in s) 0)
-      ≡ checked_by (end_fault s) (id_in s) (script_of s)
-  unfolding at_end end_fault script_of parts_of
-  ended h =
-      rw (last-is s (code_at s) (count_in s) 0 h, awaits_are s (code_at s) (count_in s))
-      (sym (last-answer (end_fault s) (id_in s) (script_of s)))
-
-  rest : Option Refusal
-  rest = or_else (parameters_fault s (slots_in s) (parameters_at s)) (or_else (slots_fault s) (or_else (code_fault s) (end_fault s)))
-
-  after-sizes : 1 ≤ count_in s → at_parameters s (id_in s) (slots_in s) (count_in s) (parameters_at s) ≡ checked_by rest (id_in s) (script_of s)
-  unfolding rest at_parameters at_repeats at_slots at_code script_of parameters_fault repeat_fault fields_at
-  after-sizes h =
-      answer-or (parameter_slots_fault s (slots_in s) (parameters_at s)) (repeat_fault s (parameters_at s)) (id_in s) _
-      ∙ ap (λ (r : Checked). answer (parameters_fault s (slots_in s) (parameters_at s)) (id_in s)
-      (answer (slots_fault s) (id_in s) (answer (code_fault s) (id_in s) r))) (ended h)
-      ∙ ap (λ (r : Checked). answer (parameters_fault s (slots_in s) (parameters_at s)) (id_in s) (answer (slots_fault s) (id_in s) r))
-      (sym (or_answer (code_fault s) (end_fault s) (id_in s) (script_of s)))
-      ∙ ap (answer (parameters_fault s (slots_in s) (parameters_at s)) (id_in s))
-      (sym (or_answer (slots_fault s) (or_else (code_fault s) (end_fault s)) (id_in s) (script_of s)))
-      ∙ sym (or_answer (parameters_fault s (slots_in s) (parameters_at s)) (or_else (slots_fault s) (or_else (code_fault s) (end_fault s))) (id_in s)
-      (script_of s))
-
-  with_sizes : at_sizes s (id_in s) (slots_in s) (count_in s) (parameters_at s)
-      ≡ checked_by (or_else (sizes_fault (slots_in s) (count_in s)) rest) (id_in s) (script_of s)
-  unfolding at_sizes
-  with_sizes = go (sizes_fault (slots_in s) (count_in s)) refl
-    where
-      go : (z : Option Refusal) → sizes_fault (slots_in s) (count_in s) ≡ z
-          → answer z (id_in s) (at_parameters s (id_in s) (slots_in s) (count_in s) (parameters_at s)) ≡ checked_by (or_else z rest) (id_in s) (script_of s)
-      go (some r) e = refl
-      go none e = after-sizes (some_code (slots_in s) (count_in s) e)
-
-  -- a function record that passed, and one that did not
-  pub function_due : function_fault s 0 ≡ none → at_sizes s (id_in s) (slots_in s) (count_in s) (parameters_at s) ≡ checked_of s
-  unfolding checked_of id_of rest
-  function_due e =
-      with_sizes
-      ∙ rw (by_sorts s, e)
-
-  pub function_bad : (r : Refusal) → function_fault s 0 ≡ some r → Refused r 0 ≡ checked_of s
+  -- a function record that did not pass, and one that did
+  pub function_bad : (e : Refused) → with_id {A = Unit {0}} 0 (answered (function_fault s 0) (tt {0})) ≡ Err e → Err e ≡ checked_of s
   unfolding checked_of id_of
-  function_bad r e = rw (by_sorts s, e)
+  function_bad e h = go (function_fault s 0) refl h
+    where
+      go : (f : Option Refusal) → function_fault s 0 ≡ f → with_id {A = Unit {0}} 0 (answered f (tt {0})) ≡ Err e → Err e ≡ checked_of s
+      go none q h = let z : ◌≡◌ {A = ℕ} 0 1 = cc in absurd (omega arith)
+      go (some r) q h = let p : e ≡ record { why = r; id = 0 } = cc in rw (p, by_sorts s, q)
+
+  pub function_passed : (x : Unit {0}) → with_id {A = Unit {0}} 0 (answered (function_fault s 0) (tt {0})) ≡ Ok x → function_fault s 0 ≡ none
+  function_passed x h = go (function_fault s 0) h
+    where
+      go : (f : Option Refusal) → with_id {A = Unit {0}} 0 (answered f (tt {0})) ≡ Ok x → f ≡ none
+      go none h = refl
+      go (some r) h = let z : ◌≡◌ {A = ℕ} 0 1 = cc in absurd (omega arith)
+
+  -- then what stands behind it decides
+  pub rest_decides : function_fault s 0 ≡ none
+      → with_id (id_in s) (answered (rest_fault s (slots_in s) (count_in s) (parameters_at s)) (script_from s (id_in s) (slots_in s) (count_in s) (parameters_at s)))
+      ≡ checked_of s
+  unfolding checked_of id_of rest_fault last_fault end_fault
+  rest_decides e = rw (by_sorts s, e) (go (rest_fault s (slots_in s) (count_in s) (parameters_at s)))
+    where
+      go : (f : Option Refusal) → with_id (id_in s) (answered f (script_from s (id_in s) (slots_in s) (count_in s) (parameters_at s)))
+          ≡ checked_by f (id_in s) (script_of s)
+      go none = ap Ok (same_script s)
+      go (some r) = refl

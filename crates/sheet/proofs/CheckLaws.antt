@@ -4,7 +4,9 @@ use mathlib.Core.List.{List}
 use mathlib.Core.Option.{Option, none, some}
 use Prim.Native.Nat.{ℕ}
 use Rattle.format.specs.declared.refusal.Refusal.{Refusal}
-use Rattle.sheet.specs.declared.script.Checked.{Checked}
+use Rattle.std.specs.Prelude.{Result}
+use Rattle.sheet.specs.declared.script.Script.{Script}
+use Rattle.sheet.specs.declared.script.Refused.{Refused}
 use Rattle.sheet.specs.Decode.{refusal, id_of, parts_of, decoded, decode}
 use Rattle.sheet.specs.Rows.{Table}
 use Rattle.sheet.specs.Scripts.{script_of, checked_by, checked_of}
@@ -16,11 +18,11 @@ same_outcome : (s : List ℕ) (f : Option Refusal) → outcome_of s (checked_by 
 same_outcome s none = refl
 same_outcome s (some r) = refl
 
-means : (s : List ℕ) (r : Checked) → r ≡ checked_of s → outcome_of s r ≡ decode s
+means : (s : List ℕ) (r : Result Script Refused) → r ≡ checked_of s → outcome_of s r ≡ decode s
 unfolding decode checked_of
 means s r e = ap (outcome_of s) e ∙ same_outcome s (refusal s)
 
-pub checks : (s : List ℕ) (r : Checked) → r ≡ checked_of s → Checks s r
+pub checks : (s : List ℕ) (r : Result Script Refused) → r ≡ checked_of s → Checks s r
 unfolding decode checked_of
 checks s r e = record {
   answer = e;

@@ -8,6 +8,7 @@ use native.Mathlib.Omega.{arith}
 use borrow.Author.Tests.{not-false, eqb-true, ltb-false}
 use lib.Dec.{eqb, ltb}
 use lib.ListN.{length}
+use Rattle.std.specs.Prelude.{Ok}
 use Rattle.operands.specs.Kinds.{ends_block}
 use Rattle.format.specs.declared.refusal.Refusal.{Refusal}
 use Rattle.format.specs.declared.refusal.Refusal.TheVariants.{LeftOver, TooMany, NoCode, OpenEnd}
@@ -18,12 +19,12 @@ use Rattle.format.proofs.Or.{or_none}
 use Rattle.records.proofs.Passed.{none-due, neither, parameters-passed}
 use Rattle.format.proofs.HeadLaws.{lies}
 use Rattle.sheet.specs.declared.script.Script.{Script}
-use Rattle.sheet.specs.declared.script.Checked.TheVariants.{Passed}
 use Rattle.sheet.specs.Decode.{slots_in, count_in, sizes_fault, offset_of, parameters_at, slots_at, code_at, instruction_at, end_fault, refusal, id_of}
 use Rattle.sheet.specs.Stages.{first_of}
 use Rattle.sheet.specs.Checks.{Inside}
 use Rattle.sheet.specs.Scripts.{script_of, checked_by, checked_of}
-use Rattle.sheet.proofs.Answer.{slots_fault, code_fault, by_sorts, some_code}
+use Rattle.sheet.proofs.Answer.{slots_fault, code_fault, by_sorts}
+use Rattle.sheet.proofs.StageLaws.{some_code}
 
 -- no refusal is due, sort by sort
 pub record Clean (s : List ℕ) : Type 0 where
@@ -105,10 +106,10 @@ inside_of s e =
     }
 
 -- the script of a sheet that passed
-pub passed : (s : List ℕ) (x : Script) → checked_of s ≡ Passed x → (refusal s ≡ none) × (x ≡ script_of s)
+pub passed : (s : List ℕ) (x : Script) → checked_of s ≡ Ok x → (refusal s ≡ none) × (x ≡ script_of s)
 unfolding checked_of
 passed s x e = go (refusal s) e
   where
-    go : (f : Option Refusal) → checked_by f (id_of s) (script_of s) ≡ Passed x → (f ≡ none) × (x ≡ script_of s)
+    go : (f : Option Refusal) → checked_by f (id_of s) (script_of s) ≡ Ok x → (f ≡ none) × (x ≡ script_of s)
     go none e = let q : x ≡ script_of s = cc in (refl, q)
     go (some r) e = let z : ◌≡◌ {A = ℕ} 0 1 = cc in absurd (omega arith)

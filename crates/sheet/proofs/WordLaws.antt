@@ -1,16 +1,15 @@
 -- The words of slots up to the last that may be a host slot: how the walk counts them, and what stands behind them. Assumes nothing.
-use mathlib.Core.Path.{◌≡◌, refl, ap, sym, ◌∙◌}
+use mathlib.Core.Path.{◌≡◌, refl, ap, ◌∙◌}
 use mathlib.Core.Bool.{Bool, true, false}
 use mathlib.Core.List.{List}
-use Prim.Native.Nat.{ℕ, zero, suc, ◌+◌, ◌*◌, ◌-◌, ◌/◌, ◌%◌, ◌≤◌, ◌<◌, min}
+use Prim.Native.Nat.{ℕ, zero, suc, ◌+◌, ◌*◌, ◌/◌, ◌≤◌, ◌<◌}
 use native.Mathlib.Nat.{zero-add, suc-add}
 use native.Mathlib.Omega.{arith}
-use borrow.Author.Tests.{eqb-true, eqb-false}
-use lib.Dec.{eqb}
 use Rattle.operands.specs.Choice.{pick}
 use Rattle.format.specs.Heads.{end_at}
 use Rattle.records.specs.Records.{plain_slot, plain_run}
 use Rattle.records.proofs.PlainLaws.{plain, plain_end}
+use Rattle.records.proofs.RunLaws.{plain_run_most}
 use Rattle.sheet.specs.Decode.{offset_of}
 use Rattle.sheet.specs.Scripts.{host_words}
 
@@ -27,6 +26,20 @@ words-split s at (suc k) n i m =
     ∙ words-split s (end_at s at) k n (suc i) u
     ∙ ap (λ (c : ℕ). host_words s (offset_of s (end_at s at) k) n c (host_words s (end_at s at) k (suc i) u)) one
 
+-- slots that are all plain
+all_plain : (s : List ℕ) (n at i m : ℕ) → plain_run s 1 at n ≡ n → host_words s at n i m ≡ m
+unfolding host_words plain_run
+all_plain s zero at i m e = refl
+all_plain s (suc n) at i m e = go (plain_slot s 1 at) refl e (λ q. all_plain s n (at + 6) (suc i) m q)
+  where
+    go : (b : Bool) → plain_slot s 1 at ≡ b → pick b (suc (plain_run s 1 (at + 6) n)) 0 ≡ suc n
+        → (plain_run s 1 (at + 6) n ≡ n → host_words s (at + 6) n (suc i) m ≡ m)
+        → host_words s (end_at s at) n (suc i) (pick b m (i / 64 + 1)) ≡ m
+    go true b e more =
+        let q : plain_run s 1 (at + 6) n ≡ n = omega arith in
+        rw (← plain_end s 1 at (plain s 1 at b)) (more q)
+    go false b e more = absurd (omega arith)
+
 -- slots of one word, word j
 module _ (s : List ℕ) (j : ℕ) where
   one_word : (n at i : ℕ) → 64 * j ≤ i → i + n ≤ 64 * j + 64 → host_words s at n i (j + 1) ≡ j + 1
@@ -39,19 +52,6 @@ module _ (s : List ℕ) (j : ℕ) where
       same : (b : Bool) → pick b (j + 1) (j + 1) ≡ j + 1
       same true = refl
       same false = refl
-
-  all_plain : (n at i m : ℕ) → plain_run s 1 at n ≡ n → host_words s at n i m ≡ m
-  unfolding host_words plain_run
-  all_plain zero at i m e = refl
-  all_plain (suc n) at i m e = go (plain_slot s 1 at) refl e (λ q. all_plain n (at + 6) (suc i) m q)
-    where
-      go : (b : Bool) → plain_slot s 1 at ≡ b → pick b (suc (plain_run s 1 (at + 6) n)) 0 ≡ suc n
-          → (plain_run s 1 (at + 6) n ≡ n → host_words s (at + 6) n (suc i) m ≡ m)
-          → host_words s (end_at s at) n (suc i) (pick b m (i / 64 + 1)) ≡ m
-      go true b e more =
-          let q : plain_run s 1 (at + 6) n ≡ n = omega arith in
-          rw (← plain_end s 1 at (plain s 1 at b)) (more q)
-      go false b e more = absurd (omega arith)
 
   not-all_plain : (n at i m : ℕ) → 64 * j ≤ i → i + n ≤ 64 * j + 64 → (plain_run s 1 at n ≡ n → ⊥) → host_words s at n i m ≡ j + 1
   unfolding host_words plain_run
@@ -68,36 +68,26 @@ module _ (s : List ℕ) (j : ℕ) where
           let q : i / 64 ≡ j = omega arith in
           rw q (one_word n (end_at s at) (suc i) (omega arith) (omega arith))
 
--- the walk up to slot i, which begins a word if there is one left
-pub record Worded (s : List ℕ) (n first at i m : ℕ) : Type 0 where
-  pub begins : i < n → i % 64 ≡ 0
-  pub words : host_words s first n 0 0 ≡ host_words s at (n - i) i m
+-- and the others behind a part: the slot behind it is of no account where there is none
+pub words_more : (s : List ℕ) (at k rest left i j m v next : ℕ) → left ≡ k + rest → next ≡ offset_of s at k → (0 < rest → i + k ≡ j)
+    → host_words s at k i m ≡ v → host_words s at left i m ≡ host_words s next rest j v
+unfolding host_words
+words_more s at k zero left i j m v next l p h e =
+    let q : left ≡ k = omega arith in
+    ap (λ (c : ℕ). host_words s at c i m) q ∙ e
+words_more s at k (suc rest) left i j m v next l p h e =
+    ap (λ (c : ℕ). host_words s at c i m) l ∙ words-split s at k (suc rest) i m ∙ rw (e, ← p, h (omega arith))
 
-module _ (s : List ℕ) (n first : ℕ) where
-  pub worded_start : Worded s n first first 0 0
-  worded_start =
-      let z : n ≡ n - 0 = omega arith in
-      record { begins = λ h. refl; words = ap (λ (c : ℕ). host_words s first c 0 0) z }
+pub words_none : (s : List ℕ) (at left i m : ℕ) → left ≡ 0 → host_words s at left i m ≡ m
+unfolding host_words
+words_none s at left i m e = rw e
 
-  module _ (at i m : ℕ) (r : Worded s n first at i m) where
-    -- one word more
-    pub worded_more : (k b next v : ℕ) → i < n → k ≡ min (n - i) 64 → next ≡ offset_of s at k → b ≡ plain_run s 1 at k
-        → v ≡ pick (eqb b k) m (i / 64 + 1) → Worded s n first next (i + k) v
-    worded_more k b next v h l p e q =
-        let z = r.begins h in
-        let rest : n - i ≡ k + (n - (i + k)) = omega arith in
-        record {
-          begins = λ g. omega arith;
-          words = r.words ∙ ap (λ (c : ℕ). host_words s at c i m) rest ∙ words-split s at k (n - (i + k)) i m ∙ rw (p, q ∙ sym (word z (eqb b k) refl));
-        }
-      where
-        word : i % 64 ≡ 0 → (c : Bool) → eqb b k ≡ c → host_words s at k i m ≡ pick c m (i / 64 + 1)
-        word z true c = all_plain s (i / 64) k at i m (sym e ∙ eqb-true b k c)
-        word z false c = not-all_plain s (i / 64) k at i m (omega arith) (omega arith) (λ w. eqb-false b k c (e ∙ w))
+-- a part within word j: all of it plain, or not
+pub words_kept : (s : List ℕ) (at k i m b : ℕ) → b ≡ plain_run s 1 at k → k ≤ b → host_words s at k i m ≡ m
+words_kept s at k i m b e h = all_plain s k at i m (omega (arith, plain_run_most s 1 k at))
 
-    pub worded_end : n ≤ i → host_words s first n 0 0 ≡ m
-    unfolding host_words
-    worded_end h = let q : n - i ≡ 0 = omega arith in r.words ∙ rw q
+pub words_counted : (s : List ℕ) (at k i m j b : ℕ) → i ≡ 64 * j → k ≤ 64 → b ≡ plain_run s 1 at k → b < k → host_words s at k i m ≡ j + 1
+words_counted s at k i m j b z l e h = not-all_plain s j k at i m (omega arith) (omega arith) (λ w. omega (arith, e))
 
 -- there are no more words than slots
 pub few_words : (s : List ℕ) (n at i m : ℕ) → m ≤ i → host_words s at n i m ≤ i + n

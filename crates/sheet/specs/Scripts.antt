@@ -1,5 +1,5 @@
 -- What the code keeps of a sheet that passes, and the answer of its check.
-use Rattle.std.specs.Prelude.{List, [], ◌∷◌, ℕ, zero, suc, ◌+◌, ◌/◌}
+use Rattle.std.specs.Prelude.{List, [], ◌∷◌, ℕ, zero, suc, ◌+◌, ◌/◌, Result, Ok, Err}
 use Rattle.std.proofs.Math.Option.{Option, none, some}
 use Rattle.operands.specs.Choice.{pick}
 use Rattle.operands.specs.Kinds.{is_await}
@@ -7,8 +7,7 @@ use Rattle.format.specs.declared.refusal.Refusal.{Refusal}
 use Rattle.format.specs.Heads.{end_at, body_length}
 use Rattle.records.specs.Records.{plain_slot}
 use Rattle.sheet.specs.declared.script.Script.{Script}
-use Rattle.sheet.specs.declared.script.Checked.{Checked}
-use Rattle.sheet.specs.declared.script.Checked.TheVariants.{Passed, Refused}
+use Rattle.sheet.specs.declared.script.Refused.{Refused}
 use Rattle.sheet.specs.Decode.{id_in, slots_in, count_in, parameters_at, slots_at, code_at, refusal, id_of, Instruction, parts_of}
 
 -- how many instructions are awaits
@@ -36,10 +35,10 @@ script_of s = record {
   awaits = awaits_in (parts_of s).code;
 }
 
-abbrev pub checked_by : Option Refusal → ℕ → Script → Checked
-checked_by (some r) id x = Refused r id
-checked_by none id x = Passed x
+abbrev pub checked_by : Option Refusal → ℕ → Script → Result Script Refused
+checked_by (some r) id x = Err (record { why = r; id = id })
+checked_by none id x = Ok x
 
 -- the answer: the refusal that is due with the function id, or the script
-unfoldable pub checked_of : List ℕ → Checked
+unfoldable pub checked_of : List ℕ → Result Script Refused
 checked_of s = checked_by (refusal s) (id_of s) (script_of s)

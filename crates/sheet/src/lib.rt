@@ -1,162 +1,103 @@
-// The sheet checks, 1 to 9 and 17, stage by stage, each ending in a call of the next.
+// The sheet checks, 1 to 9 and 17.
 #![tactic(auto)]
 
 pub mod script;
 pub mod walk;
 
-ghost use Rattle.std.specs.Prelude.{◌≡◌, ◌+◌, ◌*◌, ◌≤◌, length};
-ghost use Rattle.bitset.specs.Below.{AllBelow};
-ghost use Rattle.operands.specs.Bytes.{numbers_at};
-ghost use Rattle.reader.specs.Steps.{due_step};
+ghost use Rattle.std.specs.Prelude.{◌≡◌};
+ghost use Rattle.format.specs.Refusals.{answered};
+ghost use Rattle.sheet.specs.Decode.{sizes_fault};
+ghost use Rattle.sheet.specs.Code.{closes};
+ghost use Rattle.sheet.specs.Stages.{ReadsOnce, last_fault, rest_fault, script_from};
 ghost use Rattle.sheet.specs.Checks.{Checks};
-ghost use Rattle.sheet.specs.Stages.{at_end, at_code, at_slots, at_repeats, at_parameters, at_sizes};
 
+use format::fields::Counts;
 use format::refusal::Refusal;
-use operands::{instruction, kinds};
-use records::record;
-use records::record::Step;
-use script::{Checked, Script};
-use walk::{Code, Slots};
-
-// After the last record: 4, then 9.
-fn check_end(s: &[u8], script: Script, end: usize, last: usize) -> Checked
-    ensures { result ≡ at_end s.now script end last }
-{
-    if end != s.len() {
-        return Checked::Refused(Refusal::LeftOver, script.id);
-    }
-    if kinds::ends_block(last) {
-        return Checked::Passed(script);
-    }
-    Checked::Refused(Refusal::OpenEnd, script.id)
-}
-
-// From the instruction records on.
-fn check_code(s: &[u8], script: Script) -> Checked
-    ensures { result ≡ at_code s.now script }
-{
-    let code = walk::walk_code(s, script.slots, script.count, script.code_at);
-    let Code::Ended(end, last, awaits) = code else {
-        return Checked::Refused(code.refusal(), script.id);
-    };
-    check_end(
-        s,
-        Script {
-            id: script.id,
-            slots: script.slots,
-            count: script.count,
-            params_at: script.params_at,
-            params: script.params,
-            slots_at: script.slots_at,
-            code_at: script.code_at,
-            host_words: script.host_words,
-            awaits: awaits,
-        },
-        end,
-        last,
-    )
-}
-
-// From the slot records on.
-fn check_slots(s: &[u8], script: Script) -> Checked
-    ensures { result ≡ at_slots s.now script }
-{
-    let walked = walk::walk_slots(s, script.slots, script.slots_at);
-    let Slots::Through(next, words) = walked else {
-        return Checked::Refused(walked.refusal(), script.id);
-    };
-    check_code(
-        s,
-        Script {
-            id: script.id,
-            slots: script.slots,
-            count: script.count,
-            params_at: script.params_at,
-            params: script.params,
-            slots_at: script.slots_at,
-            code_at: next,
-            host_words: words,
-            awaits: 0,
-        },
-    )
-}
-
-// The parameters of a script, each named once: 17. This stands here and not behind the reader, so that the parameter record stays small there.
-fn check_repeats(s: &[u8], script: Script) -> Checked
-    requires { (script.params_at + 4 * script.params ≤ length s.now) × AllBelow script.slots (numbers_at s.now script.params_at script.params) }
-    ensures { result ≡ at_repeats s.now script }
-{
-    if repeats::any_twice(s, script.params_at, script.params, script.slots) {
-        return Checked::Refused(Refusal::ParameterTwice, script.id);
-    }
-    check_slots(s, script)
-}
-
-// The parameter record. It and the function record are read in functions of their own, so that the compiler leaves no call of the reader in the
-// loop over the instructions (docs/DECISIONS.md).
-fn parameter_record(s: &[u8], slots: usize, count: usize, at: usize) -> Step
-    ensures { result ≡ due_step s.now 257 slots count at }
-{
-    reader::due_at(s, record::PARAMETERS, slots, count, at)
-}
-
-// From the parameter record on.
-fn check_parameters(s: &[u8], id: u32, slots: usize, count: usize, at: usize) -> Checked
-    ensures { result ≡ at_parameters s.now id slots count at }
-{
-    let step = parameter_record(s, slots, count, at);
-    let Step::Next(next, _) = step else {
-        return Checked::Refused(step.refusal(), id);
-    };
-    check_repeats(
-        s,
-        Script {
-            id: id,
-            slots: slots,
-            count: count,
-            params_at: at + 4,
-            params: (next - (at + 4)) / 4,
-            slots_at: next,
-            code_at: 0,
-            host_words: 0,
-            awaits: 0,
-        },
-    )
-}
+use operands::bytes;
+use reader::Reader;
+use script::{Refused, Script};
+use walk::Code;
 
 // The numbers of the function record: 5, then 6.
-fn check_sizes(s: &[u8], id: u32, slots: usize, count: usize, at: usize) -> Checked
-    ensures { result ≡ at_sizes s.now id slots count at }
+#[tactic(auto, unfolding(crate::specs::Decode::sizes_fault))]
+fn check_counts(counts: Counts) -> Result<(), Refusal>
+    ensures { result ≡ answered (sizes_fault counts.slots counts.instructions) tt }
 {
-    if 65536 < slots {
-        return Checked::Refused(Refusal::TooMany, id);
+    if 65536 < counts.slots || 65536 < counts.instructions {
+        return Err(Refusal::TooMany);
     }
-    if 65536 < count {
-        return Checked::Refused(Refusal::TooMany, id);
+    if counts.instructions == 0 {
+        return Err(Refusal::NoCode);
     }
-    if count == 0 {
-        return Checked::Refused(Refusal::NoCode, id);
-    }
-    check_parameters(s, id, slots, count, at)
+    Ok(())
 }
 
-// The function record, which is the first.
-fn function_record(s: &[u8]) -> Step
-    ensures { result ≡ due_step s.now 256 0 0 0 }
+// The parameter record, and each parameter named once: 17, which is looked at here, so that no search stands among the checks of a record. It
+// answers how many there are.
+fn check_parameters(reader: &mut Reader<'_>, slots: usize) -> Result<usize, Refusal>
+    ensures { ReadsOnce slots reader.old reader.new result }
 {
-    reader::due_at(s, record::FUNCTION, 0, 0, 0)
+    let at = reader.at;
+    reader.parameters(slots)?;
+    let (numbers, _) = reader.sheet[at + 4..reader.at].as_chunks::<4>();
+    if repeats::any_twice(numbers, slots) {
+        return Err(Refusal::ParameterTwice);
+    }
+    Ok(numbers.len())
 }
 
-// The sheet checks, 1 to 9 and 17. The function's id is 0 until the function record has passed 1 to 3.
-pub fn check(s: &[u8]) -> Checked
+// After the last record: 4, then 9.
+#[tactic(auto, unfolding(crate::specs::Stages::last_fault))]
+fn check_end(s: &[u8], end: usize, code: Code) -> Result<(), Refusal>
+    ensures { result ≡ answered (last_fault s.now end (closes code.last)) tt }
+{
+    if end != s.len() {
+        return Err(Refusal::LeftOver);
+    }
+    if !code.last.is_some_and(|kind| kind.ends_block()) {
+        return Err(Refusal::OpenEnd);
+    }
+    Ok(())
+}
+
+// The numbers of the function record, and the records behind it, at which the reader stands: 5 and 6, the parameters, the slots, the
+// instructions, then 4 and 9.
+fn check_rest(id: u32, counts: Counts, mut reader: Reader<'_>) -> Result<Script, Refusal>
+    ensures { let s = reader.entry.sheet.now in
+        let at = reader.entry.at in
+        result ≡ answered (rest_fault s counts.slots counts.instructions at) (script_from s id counts.slots counts.instructions at) }
+{
+    check_counts(counts)?;
+    let parameters_at = reader.at;
+    let params = check_parameters(&mut reader, counts.slots)?;
+    let slots_at = reader.at;
+    let host_words = walk::walk_slots(&mut reader, counts.slots)?;
+    let code_at = reader.at;
+    let code = walk::walk_code(&mut reader, counts)?;
+    check_end(reader.sheet, reader.at, code)?;
+    Ok(Script {
+        id,
+        slots: counts.slots,
+        count: counts.instructions,
+        params_at: parameters_at + 4,
+        params,
+        slots_at,
+        code_at,
+        host_words,
+        awaits: code.awaits,
+    })
+}
+
+// The sheet checks, 1 to 9 and 17.
+pub fn check(s: &[u8]) -> Result<Script, Refused>
     ensures { Checks s.now result }
 {
-    let step = function_record(s);
-    let Step::Next(next, _) = step else {
-        return Checked::Refused(step.refusal(), 0);
+    let mut reader = Reader::new(s, 0);
+    reader.function().map_err(|why| Refused { why, id: 0 })?;
+    let id = bytes::u32_at(s, 4);
+    let counts = Counts {
+        slots: bytes::u32_at(s, 8) as usize,
+        instructions: bytes::u32_at(s, 12) as usize,
     };
-    let id = instruction::u32_at(s, 4);
-    let slots = instruction::u32_at(s, 8) as usize;
-    let count = instruction::u32_at(s, 12) as usize;
-    check_sizes(s, id, slots, count, next)
+    check_rest(id, counts, reader).map_err(|why| Refused { why, id })
 }

@@ -20,9 +20,9 @@ pub struct Script {
     pub awaits: usize,
 }
 
-#[derive(Clone, Copy)]
-pub enum Checked {
-    Passed(Script),
-    // The refusal, with the function's id.
-    Refused(Refusal, u32),
+// Why a sheet is refused, with the function's id: 0 until the function record has passed 1 to 3.
+#[derive(Clone, Copy, PartialEq, Eq, Debug)]
+pub struct Refused {
+    pub why: Refusal,
+    pub id: u32,
 }

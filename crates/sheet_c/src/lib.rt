@@ -5,7 +5,7 @@ ghost use Rattle.std.specs.Prelude.{◌≡◌};
 ghost use Rattle.sheet.specs.Scripts.{checked_of};
 ghost use Rattle.sheet_c.specs.Exports.{facts_of};
 
-use sheet::script::Checked;
+use sheet::script::{Refused, Script};
 
 // Number 0 and what the engine has to know of the sheet; or the number of the refusal, with the function's id alone.
 #[repr(C)]
@@ -26,32 +26,37 @@ pub struct SheetFacts {
     pub awaits: u64,
 }
 
-fn facts_of(c: Checked) -> SheetFacts
-    ensures { result ≡ facts_of c }
-{
-    match c {
-        Checked::Passed(x) => SheetFacts {
-            number: 0,
-            id: x.id as u64,
-            slots: x.slots as u64,
-            count: x.count as u64,
-            params_at: x.params_at as u64,
-            params: x.params as u64,
-            slots_at: x.slots_at as u64,
-            code_at: x.code_at as u64,
-            awaits: x.awaits as u64,
-        },
-        Checked::Refused(r, id) => SheetFacts {
-            number: r.number(),
-            id: id as u64,
-            slots: 0,
-            count: 0,
-            params_at: 0,
-            params: 0,
-            slots_at: 0,
-            code_at: 0,
-            awaits: 0,
-        },
+impl From<Result<Script, Refused>> for SheetFacts {
+    ghost use Rattle.std.specs.Prelude.{◌≡◌};
+    ghost use Rattle.sheet_c.specs.Exports.{facts_of};
+
+    ghost from_gives = { λ checked facts. facts ≡ facts_of checked };
+
+    fn from(checked: Result<Script, Refused>) -> SheetFacts {
+        match checked {
+            Ok(script) => SheetFacts {
+                number: 0,
+                id: script.id as u64,
+                slots: script.slots as u64,
+                count: script.count as u64,
+                params_at: script.params_at as u64,
+                params: script.params as u64,
+                slots_at: script.slots_at as u64,
+                code_at: script.code_at as u64,
+                awaits: script.awaits as u64,
+            },
+            Err(refused) => SheetFacts {
+                number: refused.why.number(),
+                id: refused.id as u64,
+                slots: 0,
+                count: 0,
+                params_at: 0,
+                params: 0,
+                slots_at: 0,
+                code_at: 0,
+                awaits: 0,
+            },
+        }
     }
 }
 
@@ -60,5 +65,5 @@ fn facts_of(c: Checked) -> SheetFacts
 pub extern "C" fn kagari_sheet_check(sheet: &[u8]) -> SheetFacts
     ensures { result ≡ facts_of (checked_of sheet.now) }
 {
-    facts_of(sheet::check(sheet))
+    sheet::check(sheet).into()
 }

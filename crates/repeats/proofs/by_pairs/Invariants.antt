@@ -1,11 +1,8 @@
-use Rattle.std.proofs.Common.{◌≡◌, ◌+◌, ◌*◌}
-use Rattle.operands.specs.Bytes.{numbers_at}
+use Rattle.std.proofs.Common.{◌≡◌, map, drop}
+use Rattle.operands.specs.Bytes.{number_in}
 use Rattle.repeats.specs.Repeats.{any_twice}
 use Rattle.repeats.proofs.by_pairs.Given as goal
 
-abbrev pub invariant-loop-left : goal.invariant-loop-left
-invariant-loop-left l =
-    (l.at + 4 * l.left ≡ l.first + 4 * l.count) × (any_twice (numbers_at l.s l.first l.count) ≡ any_twice (numbers_at l.s l.at l.left))
-
-abbrev pub decreases-loop-left : goal.decreases-loop-left
-decreases-loop-left l = l.left
+abbrev pub invariant-loop-i : goal.invariant-loop-i
+invariant-loop-i l =
+    any_twice (map number_in l.numbers) ≡ any_twice (map number_in (drop l.i l.numbers))

@@ -1,75 +1,47 @@
 -- `sheet::walk::any_slots` meets its contract. Assumes nothing.
-use Rattle.std.proofs.Common.{sym, ◌∙◌, ◌+◌, ◌*◌, ◌-◌, arith}
-use Rattle.format.specs.Heads.{kind_at, end_at}
+use Rattle.std.proofs.Common.{sym, ◌∙◌, ◌-◌, arith}
+use Rattle.std.proofs.lemmas.Result.{err_from_is_err_and}
 use Rattle.records.specs.Records.{slot_fault}
-use Rattle.records.proofs.RunLaws.{plain_run_most, plain_run_inside}
-use Rattle.sheet.proofs.WalkLaws.{went, halted, run_start, run_plain, run_more, run_stop, run_passed, run_end}
+use Rattle.records.proofs.RunLaws.{plain_run_most}
+use Rattle.sheet.proofs.WalkLaws.{Run, run_plain, run_more, run_stop, run_end, read_passed, read_refused, walks_passed, walks_refused}
 use Rattle.sheet.proofs.walk.any_slots.Goals as goal
+use Rattle.sheet.proofs.walk.any_slots.Goals.{After-plain_slots-left}
 
-pub loop-i-init : goal.loop-i-init
-loop-i-init c =
-    let a = c.args in (omega arith, run_start (λ x. slot_fault a.s.now x) a.s.now a.slots a.first)
+-- behind the plain ones
+behind : (c : After-plain_slots-left) → Run (λ a. slot_fault c.args.reader.now.sheet.now a) c.args.reader.now.sheet.now c.args.reader.now.at c.args.slots
+    c.plain_slots-left.new.self.at (c.loop-left.left - c.plain_slots-left.result)
+behind c =
+    let p = c.plain_slots-left in
+    run_plain c.loop-left.invariant.run 3 (omega arith) p.result (rw c.loop-left.invariant.same_sheet at p.ensures.count) p.ensures.at
 
-pub overflow_mul-at : goal.overflow_mul-at
-overflow_mul-at c =
-    let a = c.args in
-    let l = c.loop-i in
-    omega (arith, c.plain_slots_at-plain.ensures, plain_run_inside a.s.now 3 (a.slots - l.i) l.at)
+pub overflow_sub-left : goal.overflow_sub-left
+overflow_sub-left c =
+    let l = c.loop-left in
+    omega (arith, c.plain_slots-left.ensures.count, plain_run_most l.reader.sheet.now 3 l.left l.reader.at)
 
-pub overflow_add-at : goal.overflow_add-at
-overflow_add-at c =
-    let a = c.args in
-    let l = c.loop-i in
-    omega (arith, c.plain_slots_at-plain.ensures, plain_run_inside a.s.now 3 (a.slots - l.i) l.at)
+pub returns-in_err-slot : goal.returns-in_err-slot
+returns-in_err-slot c =
+    let e = c.plain_slots-left.ensures.sheet ∙ c.loop-left.invariant.same_sheet in
+    let f = read_refused c.slot.ensures c.in_err-slot.was in
+    let t = run_stop (behind (goal.at.returns-in_err-slot c).After-plain_slots-left) (c.loop-left.left - c.plain_slots-left.result - 1) (omega arith) (rw e at f.0) in
+    let x = err_from_is_err_and c.from_residual.result c.from_residual.ensures.1 in
+    rw (x.1, x.2) (walks_refused (c.slot.ensures.sheet ∙ e) (rw (sym f.1) at t))
 
-pub overflow_add-i : goal.overflow_add-i
-overflow_add-i c =
-    let a = c.args in
-    let l = c.loop-i in
-    omega (arith, c.plain_slots_at-plain.ensures, plain_run_most a.s.now 3 (a.slots - l.i) l.at)
+pub loop-left-preserved : goal.loop-left-preserved
+loop-left-preserved c =
+    let e = c.plain_slots-left.ensures.sheet ∙ c.loop-left.invariant.same_sheet in
+    let f = read_passed c.slot.ensures c.in_ok-slot.was in
+    record {
+      same_sheet = c.slot.ensures.sheet ∙ e;
+      run = run_more (behind (goal.at.loop-left-preserved c).After-plain_slots-left) (c.loop-left.left - c.plain_slots-left.result - 1) (omega arith)
+          (rw e at f.no_fault) (rw e at f.next);
+    }
 
-pub returns-then-slots-i : goal.returns-then-slots-i
-returns-then-slots-i c =
-    let a = c.args in
-    let l = c.loop-i in
-    let p = c.plain_slots_at-plain in
-    let s = c.args.s.now in
-    let r = run_plain s a.slots a.first l.at l.i l.invariant.1 3 (omega arith) p.result p.ensures in
-    rw (
-      run_passed (λ x. slot_fault s x) s a.slots a.first (l.at + 6 * p.result) (l.i + p.result) r (omega arith),
-      run_end (λ x. slot_fault s x) s a.slots a.first (l.at + 6 * p.result) (l.i + p.result) r (omega arith),
-    )
+pub returns-then-left-eq0 : goal.returns-then-left-eq0
+returns-then-left-eq0 c =
+    walks_passed (c.plain_slots-left.ensures.sheet ∙ c.loop-left.invariant.same_sheet)
+    (run_end (behind (goal.at.returns-then-left-eq0 c).After-plain_slots-left) c.if-left-eq0.true)
 
-pub returns-in_default : goal.returns-in_default
-returns-in_default c =
-    let a = c.args in
-    let l = c.loop-i in
-    let p = c.plain_slots_at-plain in
-    let s = c.args.s.now in
-    let at = l.at + 6 * p.result in
-    let r = run_plain s a.slots a.first l.at l.i l.invariant.1 3 (omega arith) p.result p.ensures in
-    let h = halted (slot_fault s at) (end_at s at) (kind_at s at) c.in_default.field-0 (sym c.in_default.is ∙ c.due_at-step.ensures) in
-    rw (c.in_default.is, run_stop (λ x. slot_fault s x) s a.slots a.first at (l.i + p.result) r c.in_default.field-0 (omega arith) h)
-
-pub loop-i-preserved : goal.loop-i-preserved
-loop-i-preserved c =
-    let a = c.args in
-    let l = c.loop-i in
-    let p = c.plain_slots_at-plain in
-    let s = c.args.s.now in
-    let at = l.at + 6 * p.result in
-    let r = run_plain s a.slots a.first l.at l.i l.invariant.1 3 (omega arith) p.result p.ensures in
-    let w = went (slot_fault s at) (end_at s at) (kind_at s at) c.in-Next.next c.in-Next.field-1 (sym c.in-Next.is ∙ c.due_at-step.ensures) in (
-      omega arith,
-      run_more (λ x. slot_fault s x) s a.slots a.first at (l.i + p.result) r c.in-Next.next (omega arith) w.no_fault w.is_end,
-    )
-
-pub returns : goal.returns
-returns c =
-    let a = c.args in
-    let l = c.loop-i in
-    let s = c.args.s.now in
-    rw (
-      run_passed (λ x. slot_fault s x) s a.slots a.first l.at l.i l.invariant.1 (omega arith),
-      run_end (λ x. slot_fault s x) s a.slots a.first l.at l.i l.invariant.1 (omega arith),
-    )
+pub returns-after-loop-left : goal.returns-after-loop-left
+returns-after-loop-left c =
+    walks_passed c.loop-left.invariant.same_sheet (run_end c.loop-left.invariant.run (omega arith))

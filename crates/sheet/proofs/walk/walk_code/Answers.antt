@@ -1,52 +1,45 @@
 -- `sheet::walk::walk_code` meets its contract. Assumes nothing.
-use Rattle.std.proofs.Common.{ap, ◌∙◌, sym, arith}
-use Rattle.format.specs.Heads.{kind_at, end_at}
-use Rattle.records.specs.Records.{instruction_fault}
-use Rattle.sheet.specs.Stages.{one_if}
-use Rattle.sheet.proofs.WalkLaws.{went, halted, run_start, run_more, run_stop, run_passed, run_end, counted_start, counted_more, counted_kind, counted_sum}
+use Rattle.std.proofs.Common.{◌≡◌, refl, sym, ap, ◌∙◌, ℕ, suc, ◌+◌, ◌-◌, arith}
+use Rattle.std.proofs.lemmas.Result.{err_from_is_err_and}
+use Rattle.std.specs.Int.{from_bool}
+use Rattle.sheet.proofs.WalkLaws.{run_more, run_stop, run_end, read_passed, read_refused, walks_passed, walks_refused}
+use Rattle.sheet.proofs.CodeLaws.{await_once, code_more, code_end}
 use Rattle.sheet.proofs.walk.walk_code.Goals as goal
 
-pub loop-i-init : goal.loop-i-init
-loop-i-init c =
-    let a = c.args in (
-      run_start (λ x. instruction_fault a.s.now a.slots a.count x) a.s.now a.count a.first,
-      counted_start a.s.now a.count a.first,
-    )
+pub loop-init : goal.loop-init
+loop-init c =
+    let q : c.args.counts.instructions ≡ c.args.counts.instructions - 0 = omega arith in
+    record { same_sheet = refl; few = omega arith; run = rw (sym q) (record { faults = refl; stops = refl }); code = rw (sym q) }
 
-pub returns-in_default : goal.returns-in_default
-returns-in_default c =
-    let a = c.args in
-    let l = c.loop-i in
-    let s = c.args.s.now in
-    let h = halted (instruction_fault s a.slots a.count l.at) (end_at s l.at) (kind_at s l.at) c.in_default.field-0
-    (sym c.in_default.is ∙ c.due_at-step.ensures) in
-    rw (
-      c.refusal.ensures,
-      c.in_default.is,
-      run_stop (λ x. instruction_fault s a.slots a.count x) s a.count a.first l.at l.i l.invariant.0 c.in_default.field-0 (omega arith) h,
-    )
+pub returns-in_err-kind : goal.returns-in_err-kind
+returns-in_err-kind c =
+    let l = c.loop in
+    let f = read_refused c.instruction.ensures c.in_err-kind.was in
+    let t = run_stop l.invariant.run (c.args.counts.instructions - l.counter - 1) (omega (arith, c.loop-test.true)) (rw l.invariant.same_sheet at f.0) in
+    let x = err_from_is_err_and c.from_residual.result c.from_residual.ensures.1 in
+    rw (x.1, x.2) (walks_refused (c.instruction.ensures.sheet ∙ l.invariant.same_sheet) (rw (sym f.1) at t))
 
-pub loop-i-preserved : goal.loop-i-preserved
-loop-i-preserved c =
-    let a = c.args in
-    let l = c.loop-i in
-    let s = c.args.s.now in
-    let w = went (instruction_fault s a.slots a.count l.at) (end_at s l.at) (kind_at s l.at) c.in-Next.next c.in-Next.kind
-    (sym c.in-Next.is ∙ c.due_at-step.ensures) in (
-      run_more (λ x. instruction_fault s a.slots a.count x) s a.count a.first l.at l.i l.invariant.0 c.in-Next.next (omega arith)
-          w.no_fault w.is_end,
-      counted_more s a.count a.first l.at l.i l.last l.awaits l.invariant.1 c.in-Next.next c.in-Next.kind c.one_if-awaits.result (omega arith)
-          w.is_end w.is_kind (c.one_if-awaits.ensures.0 ∙ ap one_if c.is_await.ensures),
-    )
+pub loop-preserved : goal.loop-preserved
+loop-preserved c =
+    let l = c.loop in
+    let s = c.args.reader.now.sheet.now in
+    let n = c.args.counts in
+    let e = l.invariant.same_sheet in
+    let f = read_passed c.instruction.ensures c.in_ok-kind.was in
+    let left = n.instructions - l.counter in
+    let rest = n.instructions - (l.counter + 1) in
+    let q : left ≡ suc rest = omega (arith, c.loop-test.true) in
+    record {
+      same_sheet = c.instruction.ensures.sheet ∙ e;
+      few = omega (arith, l.invariant.few, await_once c.is_await.result, c.from.ensures);
+      run = run_more l.invariant.run rest q (rw e at f.no_fault) (rw e at f.next);
+      code = l.invariant.code ∙ code_more s n.slots n.instructions l.reader.at rest left c.instruction.new.self.at _ l.code c.in_ok-kind.kind q (rw e at f.no_fault) (rw e at f.next)
+          (rw e at f.is_answer) (ap (λ (k : ℕ). l.code.awaits + k) (c.from.ensures ∙ ap from_bool c.is_await.ensures));
+    }
 
 pub returns : goal.returns
 returns c =
-    let a = c.args in
-    let l = c.loop-i in
-    let s = c.args.s.now in
-    rw (
-      run_passed (λ x. instruction_fault s a.slots a.count x) s a.count a.first l.at l.i l.invariant.0 (omega arith),
-      run_end (λ x. instruction_fault s a.slots a.count x) s a.count a.first l.at l.i l.invariant.0 (omega arith),
-      counted_kind s a.count a.first l.at l.i l.last l.awaits l.invariant.1 (omega arith),
-      counted_sum s a.count a.first l.at l.i l.last l.awaits l.invariant.1 (omega arith),
-    )
+    let l = c.loop in
+    let z : c.args.counts.instructions - l.counter ≡ 0 = omega (arith, c.loop-test.false) in
+    let e = sym (l.invariant.code ∙ code_end c.args.reader.now.sheet.now l.reader.at (c.args.counts.instructions - l.counter) l.code z) in
+    rw e (walks_passed l.invariant.same_sheet (run_end l.invariant.run z))
