@@ -3,4 +3,5 @@ pub mod Below
 pub mod Digits
 pub mod SetLaws
 pub mod RowLaws
+pub mod ZipLaws
 pub mod LoopLaws

@@ -8,8 +8,8 @@ use native.Mathlib.Numerals.{add-one}
 use native.Mathlib.Omega.{arith}
 use lib.Bits.{bit_and, bit_or, bit_xor}
 use lib.Dec.{eqb}
-use lib.ListN.{length, take, drop, get_or, set, replicate, length-set, length-drop, length-replicate, get_or-replicate}
-use lib.Seq.{take_all, take-suc, length-take-le, get_or-drop, paste, paste-zero, paste-suc}
+use lib.ListN.{length, take, drop, get_or, set, length-set}
+use lib.Seq.{take_all, take-suc, length-take-le, paste, paste-zero, paste-suc}
 use Rattle.bitset.specs.Sets.{ones}
 use Rattle.bitset.specs.Operations.{zipped, meet, join, difference, same, common, within}
 use Rattle.bitset.specs.Rows.{row, patched, Apart}
@@ -40,13 +40,6 @@ made-zipped {f} {l} {d} {m} {s} {w} h =
       size = length-zipped f (row l d w) (row m s w) ∙ q;
       each = λ k i. get_or-zipped f (row l d w) (row m s w) k (omega arith) ∙ ap₂ f (get_or-row l d w k i) (get_or-row m s w k i);
     }
-
-pub made_row : {l : List ℕ} {d : ℕ} {m : List ℕ} {s w : ℕ} → d + w ≤ length l → s + w ≤ length m
-    → Made (λ a b. b) l d m s w (row m s w)
-made_row {m} {s} {w} h g = record { room = h; size = length-row m s w g; each = get_or-row m s w }
-
-pub made-fill : {v : ℕ} {l : List ℕ} {d w : ℕ} → d + w ≤ length l → Made (λ a b. v) l d l d w (replicate w v)
-made-fill {v} {w} h = record { room = h; size = length-replicate w v; each = λ k i. get_or-replicate w k v 0 i }
 
 module _ {f : ℕ → ℕ → ℕ} {l : List ℕ} {d : ℕ} {m : List ℕ} {s w : ℕ} {z : List ℕ} (made : Made f l d m s w z) where
   -- the slice after k turns, as the library has it
@@ -92,9 +85,6 @@ module _ {f : ℕ → ℕ → ℕ} {l : List ℕ} {d : ℕ} {m : List ℕ} {s w 
             ∙ sym (pasted (k + 1) (omega arith));
       }
 
-      pub stored_more : Stored l d z w (k + 1) (set x (d + k) (f (get_or x (d + k) 0) (get_or m (s + k) 0)))
-      stored_more = turned (get_or m (s + k) 0) refl
-
 -- a source row of the same slice
 pub stored-within : {f : ℕ → ℕ → ℕ} {l : List ℕ} {d s w : ℕ} {z : List ℕ} → Made f l d l s w z → Apart d s w
     → {k : ℕ} {x : List ℕ} → Stored l d z w k x → k < w → Stored l d z w (k + 1) (set x (d + k) (f (get_or x (d + k) 0) (get_or x (s + k) 0)))
@@ -139,11 +129,8 @@ module _ (l : List ℕ) (d i j w : ℕ) (h : d + w ≤ length l) where
       ∙ sym (word-replaced k turn) ∙ ap (λ (m : ℕ). get_or (replaced l d i j w) m 0) (omega arith))
 
 -- ---- a loop that compares
-row_more : (l : List ℕ) (base k : ℕ) → base + k < length l → row l base (k + 1) ≡ row l base k ++ (get_or l (base + k) 0 ∷ [])
-unfolding row
-row_more l base k h =
-    ap (λ (n : ℕ). take n (drop base l)) (add-one k) ∙ take-suc (drop base l) k 0 (simp length-drop (omega arith))
-    ∙ ap (λ (v : ℕ). take k (drop base l) ++ (v ∷ [])) (get_or-drop base l k 0)
+taken_more : (l : List ℕ) (k : ℕ) → k < length l → take (k + 1) l ≡ take k l ++ (get_or l k 0 ∷ [])
+taken_more l k h = ap (λ (n : ℕ). take n l) (add-one k) ∙ take-suc l k 0 h
 
 -- a test g of two rows, told by `told` of one number: an OR of h of the two words at each place
 pub record Tells (g : List ℕ → List ℕ → Bool) (told : ℕ → Bool) (h : ℕ → ℕ → ℕ) : Type 0 where
@@ -151,32 +138,20 @@ pub record Tells (g : List ℕ → List ℕ → Bool) (told : ℕ → Bool) (h :
   pub more : (xs ys : List ℕ) (d x y : ℕ) → length xs ≡ length ys → told d ≡ g xs ys
       → told (bit_or d (h x y)) ≡ g (xs ++ x ∷ []) (ys ++ y ∷ [])
 
--- after k turns of w the number d tells the test of the words so far
-pub record Compared (g : List ℕ → List ℕ → Bool) (told : ℕ → Bool) (a : List ℕ) (i : ℕ) (b : List ℕ) (j w k d : ℕ) : Type 0 where
-  pub below : k ≤ w
-  pub is : told d ≡ g (row a i k) (row b j k)
+-- after k turns the number d tells the test of the first k words
+abbrev pub Compared : (List ℕ → List ℕ → Bool) → (ℕ → Bool) → List ℕ → List ℕ → ℕ → ℕ → Type 0
+Compared g told a b k d = told d ≡ g (take k a) (take k b)
 
-module _ {g : List ℕ → List ℕ → Bool} {told : ℕ → Bool} {h : ℕ → ℕ → ℕ} (tells : Tells g told h)
-    {a : List ℕ} {i : ℕ} {b : List ℕ} {j w : ℕ} where
-  pub compared_none : Compared g told a i b j w 0 0
-  unfolding row
-  compared_none = record { below = omega arith; is = tells.none }
+module _ {g : List ℕ → List ℕ → Bool} {told : ℕ → Bool} {h : ℕ → ℕ → ℕ} (tells : Tells g told h) (a b : List ℕ) (m : length a ≡ length b) where
+  pub compared_more : (k d : ℕ) → k < length a → Compared g told a b k d
+      → Compared g told a b (k + 1) (bit_or d (h (get_or a k 0) (get_or b k 0)))
+  compared_more k d l e =
+      tells.more (take k a) (take k b) d (get_or a k 0) (get_or b k 0)
+      (length-take-le k a (omega arith) ∙ sym (length-take-le k b (omega arith))) e
+      ∙ sym (ap₂ g (taken_more a k l) (taken_more b k (omega arith)))
 
-  module _ {k d : ℕ} (compared : Compared g told a i b j w k d) where
-    pub compared_more : i + w ≤ length a → j + w ≤ length b → k < w
-        → Compared g told a i b j w (k + 1) (bit_or d (h (get_or a (i + k) 0) (get_or b (j + k) 0)))
-    compared_more ha hb turn = record {
-      below = omega arith;
-      is =
-          tells.more (row a i k) (row b j k) d (get_or a (i + k) 0) (get_or b (j + k) 0)
-          (length-row a i k (omega arith) ∙ sym (length-row b j k (omega arith))) compared.is
-          ∙ sym (ap₂ g (row_more a i k (omega arith)) (row_more b j k (omega arith)));
-    }
-
-    pub compared_all : w ≤ k → told d ≡ g (row a i w) (row b j w)
-    compared_all l =
-        let e : k ≡ w = omega (arith, compared.below) in
-        compared.is ∙ ap (λ (n : ℕ). g (row a i n) (row b j n)) e
+  pub compared_all : (k d : ℕ) → length a ≤ k → Compared g told a b k d → told d ≡ g a b
+  compared_all k d l e = e ∙ ap₂ g (take_all k a l) (take_all k b (omega arith))
 
 -- ---- whether the rows are the same: the OR of the XORs is 0
 same-snoc : (xs ys : List ℕ) (x y : ℕ) → length xs ≡ length ys → same (xs ++ x ∷ []) (ys ++ y ∷ []) ≡ (same xs ys && eqb x y)

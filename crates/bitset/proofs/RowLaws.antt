@@ -1,18 +1,14 @@
--- Rows of a slice and the slice with a row replaced, and one slot of the set that begins at a base. Assumes nothing.
+-- Rows of a slice, and the slice with a row replaced. Assumes nothing.
 use mathlib.Core.Logic.{◌⊎◌, inl, inr}
 use mathlib.Core.Path.{◌≡◌, sym, ap, ap₂, ◌∙◌, subst}
-use mathlib.Core.Bool.{not}
 use mathlib.Core.List.{List, ◌++◌}
-use Prim.Native.Nat.{ℕ, ◌+◌, ◌-◌, ◌*◌, ◌/◌, ◌%◌, ◌^◌, ◌≤◌, ◌<◌}
+use Prim.Native.Nat.{ℕ, ◌+◌, ◌-◌, ◌/◌, ◌%◌, ◌^◌, ◌≤◌, ◌<◌}
 use native.Mathlib.Omega.{arith}
-use lib.Bits.{bit_and, bit_or}
-use lib.Dec.{eqb}
 use lib.ListN.{length, take, drop, get_or, set, length-set, take-append-drop, length-append, length-take, length-drop, get_or-append}
 use lib.Seq.{get_or-take, get_or-drop, get_or-append-add, ext_get_or, drop-drop, set-append_left, length-take-le, take-set-le, drop-set-add}
-use Rattle.bitset.specs.Sets.{ones, member, Words}
-use Rattle.bitset.specs.Operations.{inserted, removed}
-use Rattle.bitset.specs.Rows.{row, patched, inserted_at, removed_at}
-use Rattle.bitset.proofs.Digits.{bit, mask, tested}
+use Rattle.bitset.specs.Sets.{member, Words}
+use Rattle.bitset.specs.Rows.{row, patched}
+use Rattle.bitset.proofs.Digits.{bit}
 use Rattle.bitset.proofs.SetLaws.{words-each}
 
 -- ---- a row
@@ -108,45 +104,7 @@ set-row l base w i v h k =
     ∙ ap (λ (t : List ℕ). take base l ++ (set r i v ++ t)) (drop-drop w base l)
     ∙ ap (λ (n : ℕ). take base l ++ (set r i v ++ drop (base + n) l)) (sym (length-set r i v ∙ q))
 
--- ---- one slot of the set that begins at base
+-- ---- one slot of a row
 pub member-row : (l : List ℕ) (base w slot : ℕ) → slot / 64 < w → member (drop base l) slot ≡ member (row l base w) slot
 unfolding member row
 member-row l base w slot h = ap (λ (x : ℕ). bit x (slot % 64)) (sym (get_or-take w (drop base l) (slot / 64) 0 h))
-
--- the test of the code
-pub tested-slot : (l : List ℕ) (base slot : ℕ)
-    → not (eqb (bit_and (get_or l (base + slot / 64) 0) (1 * 2 ^ (slot % 64) % 2 ^ 64)) 0) ≡ member (drop base l) slot
-unfolding member
-tested-slot l base slot =
-    tested (get_or l (base + slot / 64) 0) (slot % 64) (omega arith)
-    ∙ ap (λ (x : ℕ). bit x (slot % 64)) (sym (get_or-drop base l (slot / 64) 0))
-
--- word i from base on becomes f of itself: in the slice, and in the words from base on
-put-drop : (f : ℕ → ℕ) (l : List ℕ) (base i : ℕ)
-    → set l (base + i) (f (get_or l (base + i) 0)) ≡ take base l ++ set (drop base l) i (f (get_or (drop base l) i 0))
-put-drop f l base i =
-    ap (λ (x : ℕ). set l (base + i) (f x)) (sym (get_or-drop base l i 0)) ∙ set-drop l base i (f (get_or (drop base l) i 0))
-
--- the store of the code: g of the word and of the number with the slot's bit alone
-pub put-slot : (g : ℕ → ℕ → ℕ) (l : List ℕ) (base slot : ℕ)
-    → set l (base + slot / 64) (g (get_or l (base + slot / 64) 0) (1 * 2 ^ (slot % 64) % 2 ^ 64))
-    ≡ take base l ++ set (drop base l) (slot / 64) (g (get_or (drop base l) (slot / 64) 0) (2 ^ (slot % 64)))
-put-slot g l base slot =
-    ap (λ (m : ℕ). set l (base + slot / 64) (g (get_or l (base + slot / 64) 0) m)) (mask (slot % 64) (omega arith))
-    ∙ put-drop (λ x. g x (2 ^ (slot % 64))) l base (slot / 64)
-
--- word i from base on becomes f of itself, seen as a row replaced
-put-row : (f : ℕ → ℕ) (l : List ℕ) (base w i : ℕ) → base + w ≤ length l → i < w
-    → take base l ++ set (drop base l) i (f (get_or (drop base l) i 0)) ≡ patched l base (set (row l base w) i (f (get_or (row l base w) i 0)))
-put-row f l base w i h k =
-    sym (put-drop f l base i) ∙ ap (λ (x : ℕ). set l (base + i) (f x)) (sym (get_or-row l base w i k))
-    ∙ set-row l base w i (f (get_or (row l base w) i 0)) h k
-
-module _ (l : List ℕ) (base w slot : ℕ) (h : base + w ≤ length l) (k : slot / 64 < w) where
-  pub inserted_row : inserted_at l base slot ≡ patched l base (inserted (row l base w) slot)
-  unfolding inserted_at inserted
-  inserted_row = put-row (λ x. bit_or x (2 ^ (slot % 64))) l base w (slot / 64) h k
-
-  pub removed_row : removed_at l base slot ≡ patched l base (removed (row l base w) slot)
-  unfolding removed_at removed
-  removed_row = put-row (λ x. bit_and x (ones - 2 ^ (slot % 64))) l base w (slot / 64) h k

@@ -6,6 +6,7 @@ use mathlib.Core.List.{List, [], ◌∷◌}
 use Prim.Native.Nat.{ℕ, zero, suc, ◌+◌, ◌-◌, ◌*◌, ◌/◌, ◌%◌, ◌^◌, ◌≤◌, ◌<◌}
 use native.Mathlib.Decide.{dec_lt, ℕ_discrete}
 use native.Mathlib.Omega.{arith}
+use Rattle.std.specs.Int.Bits.{or_zero_r}
 use lib.Bits.{bit_and, bit_or, and_le_l, or_lt}
 use lib.Dec.{eqb, lit<}
 use lib.ListN.{length, get_or, set, replicate, length-set, length-replicate, get_or-replicate, get_or-eq_default}
@@ -132,6 +133,15 @@ member-zipped f g xs ys i at past = go (dec_lt (i / 64) (length xs))
     go (no h) =
         member-past (zipped f xs ys) i (omega (arith, length-zipped f xs ys)) ∙ sym (past (omega arith))
         ∙ ap (λ (t : Bool). g t (member ys i)) (sym (member-past xs i (omega arith)))
+
+-- past the words of the second, a join has those of the first
+pub joined_past : (xs ys : List ℕ) (k : ℕ) → length ys ≤ k → get_or (join xs ys) k 0 ≡ get_or xs k 0
+unfolding zipped
+joined_past [] ys k h = refl
+joined_past (x ∷ xs) [] zero h = or_zero_r x
+joined_past (x ∷ xs) [] (suc k) h = joined_past xs [] k (omega arith)
+joined_past (x ∷ xs) (y ∷ ys) zero h = absurd (omega arith)
+joined_past (x ∷ xs) (y ∷ ys) (suc k) h = joined_past xs ys k (omega arith)
 
 pub member-meet : (xs ys : List ℕ) (i : ℕ) → member (meet xs ys) i ≡ (member xs i && member ys i)
 member-meet xs ys i =

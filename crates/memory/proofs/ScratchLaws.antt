@@ -3,16 +3,18 @@ use mathlib.Core.Path.{◌≡◌, refl, sym, ap, ap₂, ◌∙◌}
 use mathlib.Core.List.{List, ◌++◌}
 use Prim.Native.Nat.{ℕ, ◌+◌, ◌-◌, ◌*◌, ◌^◌, ◌≤◌, ◌<◌}
 use native.Mathlib.Omega.{arith}
-use lib.ListN.{length, get_or, set, replicate, length-replicate, get_or-replicate}
+use lib.Seq.{paste}
+use lib.ListN.{length, take, drop, get_or, set, replicate, length-replicate, get_or-replicate, length-take, length-drop}
 use Rattle.bitset.specs.Sets.{Words}
-use Rattle.bitset.specs.Rows.{row}
+use Rattle.bitset.specs.Operations.{join, difference}
+use Rattle.bitset.specs.Rows.{row, patched, Apart}
 use Rattle.sizes.specs.declared.Layout.{Layout}
-use Rattle.memory.specs.Cells.{Mem, total, cell, word, store}
+use Rattle.memory.specs.Cells.{Mem, total, cell, word, store, store_cell, Covers}
 use Rattle.memory.specs.Scratch.{edge_words, scratch_widths, scratch_cells, scratch, Room, Place, Row}
 use Rattle.sizes.specs.Sizes.{scratch_words}
 use Rattle.memory.proofs.CellLaws.{start, width, cell-fits, length-cells, cell_row, cell-words, word-store_same}
 use Rattle.memory.proofs.CellLaws.{Sized, sized, total-append, total-equal, start-equal, start_in, start_past, width_in, width_past}
-use Rattle.memory.proofs.CellRows.{Lies, lies_word, lies_stored}
+use Rattle.memory.proofs.CellRows.{Lies, lies_word, lies_stored, covers_lies, covers_row, covers_put, covers_copied, lies_apart, lies_joined, lies_replaced}
 
 module _ (y : Layout) where
   abbrev rows : List ℕ
@@ -180,10 +182,46 @@ module _ {y : Layout} (l : List ℕ) (room : Room y (length l)) where
     unfolding scratch
     place_store = lies_stored (cell_lies e refl) i p.inside
 
+  -- cell k, which is no row, by the range of its words
+  module _ {k start end : ℕ} (c : Covers (scratch_widths y) k (width (scratch_widths y) k) (scratch_words y) start end) where
+    pub cell_long : length (take (end - start) (drop start l)) ≡ width (scratch_widths y) k
+    cell_long = simp (length-take, length-drop) (omega arith)
+
+    pub cell_put : (ys : List ℕ) → length ys ≡ length (take (end - start) (drop start l))
+        → scratch y (take start l ++ (ys ++ drop (end - start) (drop start l))) ≡ store_cell (scratch y l) k ys
+    unfolding scratch
+    cell_put ys e = covers_put l c refl enough ys (e ∙ cell_long)
+
+    -- cell d, which begins at `at`, becomes it
+    pub cell_copied : (d : ℕ) {at : ℕ} → at ≡ total (take d (scratch_widths y)) → width (scratch_widths y) d ≡ width (scratch_widths y) k
+        → scratch y (paste l at (drop start l) (end - start)) ≡ store_cell (scratch y l) d (cell (scratch y l) k)
+    unfolding scratch
+    cell_copied d e f = covers_copied l c refl enough (record { begins = e; wide = f; room = enough })
+
   module _ {k : ℕ} (r : Row y k) where
     -- row k, which begins at base, in the slice
     pub row_lies : {base : ℕ} → base ≡ start (scratch_widths y) k → Lies (scratch_widths y) l k base y.words
     row_lies e = cell_lies e (sym (width_row y k r))
+
+    -- row k by the range of its words
+    module _ {start end : ℕ} (c : Covers (scratch_widths y) k y.words (scratch_words y) start end) where
+      pub row_is : take (end - start) (drop start l) ≡ cell (scratch y l) k
+      unfolding scratch
+      row_is = covers_row l c (width_row y k r) enough
+
+      pub row_long : length (take (end - start) (drop start l)) ≡ y.words
+      row_long = simp (length-take, length-drop) (omega arith)
+
+      pub row_put : (ys : List ℕ) → length ys ≡ length (take (end - start) (drop start l))
+          → scratch y (take start l ++ (ys ++ drop (end - start) (drop start l))) ≡ store_cell (scratch y l) k ys
+      unfolding scratch
+      row_put ys e = covers_put l c (width_row y k r) enough ys (e ∙ row_long)
+
+      -- row d becomes it
+      pub row_copied : {d at to : ℕ} → Row y d → Covers (scratch_widths y) d y.words (scratch_words y) at to
+          → scratch y (paste l at (drop start l) (end - start)) ≡ store_cell (scratch y l) d (cell (scratch y l) k)
+      unfolding scratch
+      row_copied {d} g e = covers_copied l c (width_row y k r) enough (covers_lies l e (width_row y d g) enough)
 
     pub row_length : length (cell (scratch y l) k) ≡ y.words
     row_length = sized_row y scratch_sized r
@@ -192,6 +230,22 @@ module _ {y : Layout} (l : List ℕ) (room : Room y (length l)) where
     unfolding scratch
     row_words f = rw (width_row y k r) at (cell-words (scratch_widths y) l k f enough)
 
+  -- rows by the ranges of their words: no two have a word in common, and what `bitset` does to a row and other rows of the slice
+  module _ {d k a to b end : ℕ} (g : Row y d) (r : Row y k) (c : Covers (scratch_widths y) d y.words (scratch_words y) a to)
+      (e : Covers (scratch_widths y) k y.words (scratch_words y) b end) where
+    pub rows_apart : (d ≡ k → ⊥) → Apart a b y.words
+    rows_apart = lies_apart (row_lies g c.starts) (row_lies r e.starts)
+
+    pub rows_joined : scratch y (patched l a (join (row l a y.words) (row l b y.words))) ≡ store_cell (scratch y l) d (join (cell (scratch y l) d) (cell (scratch y l) k))
+    unfolding scratch
+    rows_joined = lies_joined (row_lies g c.starts) (row_lies r e.starts)
+
+    pub rows_replaced : {j i last : ℕ} → Row y j → Covers (scratch_widths y) j y.words (scratch_words y) i last
+        → scratch y (patched l a (join (difference (row l a y.words) (row l b y.words)) (row l i y.words)))
+        ≡ store_cell (scratch y l) d (join (difference (cell (scratch y l) d) (cell (scratch y l) k)) (cell (scratch y l) j))
+    unfolding scratch
+    rows_replaced q i = lies_replaced (row_lies g c.starts) (row_lies r e.starts) (row_lies q i.starts)
+
 -- the cells of a word an instruction are the same in each layout with as many instructions
 pub grown : (y y' : Layout) (l : List ℕ) (k : ℕ) → y.instructions ≡ y'.instructions → k < 4 → cell (scratch y l) k ≡ cell (scratch y' l) k
 unfolding scratch
@@ -199,3 +253,12 @@ grown y y' l k e h =
     cell_row (scratch_widths y) l k
     ∙ ap₂ (row l) (start_instructions y k h ∙ ap (λ (n : ℕ). k * n) e ∙ sym (start_instructions y' k h))
     (width_instructions y k h ∙ e ∙ sym (width_instructions y' k h)) ∙ sym (cell_row (scratch_widths y') l k)
+
+-- what functions cite: how wide the cells are that are no rows, and where they begin; a word by its place; a whole cell by the range of its words
+pub ruleset widths = (width_instructions, width_blocks, width_successors, width_links)
+
+pub ruleset starts = (start_instructions, start_blocks, start_edges)
+
+pub ruleset placed = (place_inside, place_word, place_store)
+
+pub ruleset ranged = (scratch_fits, cell_long, cell_put, cell_copied, row_is, row_long, row_put, row_copied, rows_joined, rows_replaced)

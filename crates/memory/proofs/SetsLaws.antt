@@ -1,17 +1,17 @@
 -- The layout of the sets buffer: its cells fill document 01's size, how wide each is and where it begins. Assumes nothing.
-use mathlib.Core.Path.{◌≡◌, ◌∙◌}
-use mathlib.Core.List.{List}
-use Prim.Native.Nat.{ℕ, ◌+◌, ◌-◌, ◌*◌, ◌^◌, ◌≤◌, ◌<◌}
+use mathlib.Core.Path.{◌≡◌, ap, ◌∙◌}
+use mathlib.Core.List.{List, [], ◌∷◌, ◌++◌, append-nil}
+use Prim.Native.Nat.{ℕ, suc, ◌+◌, ◌-◌, ◌*◌, ◌^◌, ◌≤◌, ◌<◌}
 use native.Mathlib.Omega.{arith}
-use lib.ListN.{length, get_or, replicate, length-replicate, get_or-replicate, length-append}
+use lib.ListN.{length, take, drop, get_or, set, drop_of_length-le, replicate, length-replicate, get_or-replicate, length-append, length-take, length-drop}
 use Rattle.bitset.specs.Sets.{Words}
 use Rattle.sizes.specs.declared.Layout.{Layout}
-use Rattle.memory.specs.Cells.{total, cell}
+use Rattle.memory.specs.Cells.{total, cell, store_cell, Covers}
 use Rattle.memory.specs.Sets.{sets_widths, sets, SetsRoom, SetsRow, AwaitEntry}
 use Rattle.sizes.specs.Sizes.{sets_words}
 use Rattle.memory.proofs.CellLaws.{start, width, cell-fits, length-cells, cell-words, Sized, sized}
 use Rattle.memory.proofs.CellLaws.{total-append, total-equal, start-equal, start_in, start_past, width_in, width_past}
-use Rattle.memory.proofs.CellRows.{Lies}
+use Rattle.memory.proofs.CellRows.{covers_row, covers_put}
 
 module _ (y : Layout) where
   abbrev awaits : List ℕ
@@ -55,6 +55,13 @@ module _ (y : Layout) where
         start_past (2 * y.blocks) y.words awaits k r.low
         ∙ omega (arith, start-equal y.awaits (1 + y.words) (k - 2 * y.blocks) (omega arith))
 
+-- a list whose first element becomes v, and then the others ys, in the form that the code has
+headed : (l ys : List ℕ) (v : ℕ) → length l ≡ 1 + length ys
+    → take 1 (set l 0 v) ++ (ys ++ drop (length (set l 0 v) - 1) (drop 1 (set l 0 v))) ≡ v ∷ ys
+headed [] ys v h = absurd (omega arith)
+headed (x ∷ l) ys v h =
+    ap (λ (r : List ℕ). v ∷ (ys ++ r)) (drop_of_length-le l (omega arith)) ∙ ap (λ (r : List ℕ). v ∷ r) (append-nil ys)
+
 -- ---- the cells of words that are enough
 pub sets-length : (y : Layout) (l : List ℕ) → length (sets y l) ≡ 2 * y.blocks + y.awaits
 unfolding sets
@@ -69,19 +76,44 @@ module _ {y : Layout} (l : List ℕ) (room : SetsRoom y (length l)) where
   sets_sized = sized (sets_widths y) l enough
 
   module _ {k : ℕ} (r : SetsRow y k) where
-    -- row k, which begins at base, in the slice
-    pub sets_row_lies : {base : ℕ} → base ≡ start (sets_widths y) k → Lies (sets_widths y) l k base y.words
-    sets_row_lies e = record { begins = e; wide = width_sets_row y k r; room = enough }
+    -- row k by the range of its words
+    module _ {start end : ℕ} (c : Covers (sets_widths y) k y.words (sets_words y) start end) where
+      pub sets_row_is : take (end - start) (drop start l) ≡ cell (sets y l) k
+      unfolding sets
+      sets_row_is = covers_row l c (width_sets_row y k r) enough
+
+      pub sets_row_long : length (take (end - start) (drop start l)) ≡ y.words
+      sets_row_long = simp (length-take, length-drop) (omega arith)
+
+      pub sets_row_put : (ys : List ℕ) → length ys ≡ length (take (end - start) (drop start l))
+          → sets y (take start l ++ (ys ++ drop (end - start) (drop start l))) ≡ store_cell (sets y l) k ys
+      unfolding sets
+      sets_row_put ys e = covers_put l c (width_sets_row y k r) enough ys (e ∙ sets_row_long)
 
     pub sets_row_words : ((i : ℕ) → get_or l i 0 < 2 ^ 64) → Words y.words (cell (sets y l) k)
     unfolding sets
     sets_row_words f = rw (width_sets_row y k r) at (cell-words (sets_widths y) l k f enough)
 
   module _ {k : ℕ} (r : AwaitEntry y k) where
-    -- entry k, which begins at base, in the slice
-    pub await_lies : {base : ℕ} → base ≡ start (sets_widths y) k → Lies (sets_widths y) l k base (1 + y.words)
-    await_lies e = record { begins = e; wide = width_await y k r; room = enough }
+    -- entry k by the range of its words
+    module _ {start end : ℕ} (c : Covers (sets_widths y) k (1 + y.words) (sets_words y) start end) where
+      pub entry_long : length (take (end - start) (drop start l)) ≡ 1 + y.words
+      entry_long = simp (length-take, length-drop) (omega arith)
+
+      -- its first word becomes v, and then the others ys
+      pub entry_put : (v : ℕ) (ys : List ℕ) → length ys ≡ y.words
+          → let mid : List ℕ = set (take (end - start) (drop start l)) 0 v in
+          sets y (take start l ++ ((take 1 mid ++ (ys ++ drop (length mid - 1) (drop 1 mid))) ++ drop (end - start) (drop start l)))
+          ≡ store_cell (sets y l) k (v ∷ ys)
+      unfolding sets
+      entry_put v ys e =
+          let mid : List ℕ = take (end - start) (drop start l) in
+          ap (λ (ws : List ℕ). sets y (take start l ++ (ws ++ drop (end - start) (drop start l)))) (headed mid ys v (omega (arith, entry_long)))
+          ∙ covers_put l c (width_await y k r) enough (v ∷ ys) (ap suc e ∙ omega arith)
 
     pub await_words_lem : ((i : ℕ) → get_or l i 0 < 2 ^ 64) → Words (1 + y.words) (cell (sets y l) k)
     unfolding sets
     await_words_lem f = rw (width_await y k r) at (cell-words (sets_widths y) l k f enough)
+
+-- what a function cites that reads or writes whole cells of the sets buffer by the ranges of their words
+pub ruleset sets_ranged = (sets_row_is, sets_row_long, sets_row_put, entry_long, entry_put)

@@ -1,6 +1,6 @@
 -- A slice of words as a list of cells, by the cells' widths. Reading and writing a cell is reading and writing a list of lists, so that a
 -- contract is one equation that says both what changed and that nothing else did.
-use Rattle.std.specs.Prelude.{List, [], ◌∷◌, ℕ, ◌+◌, get_or, set, take, drop}
+use Rattle.std.specs.Prelude.{◌≡◌, List, [], ◌∷◌, ℕ, ◌+◌, ◌≤◌, get_or, set, take, drop}
 
 -- cells, each a list of words
 abbrev pub Mem : Type 0
@@ -15,6 +15,12 @@ cells (n ∷ ns) l = take n l ∷ cells ns (drop n l)
 unfoldable pub total : List ℕ → ℕ
 total [] = 0
 total (n ∷ ns) = n + total ns
+
+-- in a buffer of n words at least, those from `start` up to `end` are the w words of cell k of these widths
+pub record Covers (ns : List ℕ) (k w n start end : ℕ) : Type 0 where
+  pub starts : start ≡ total (take k ns)
+  pub ends : end ≡ start + w
+  pub fits : end ≤ n
 
 -- cell k
 abbrev pub cell : Mem → ℕ → List ℕ

@@ -43,6 +43,7 @@ pub fn put(s: &mut [u64], y: Layout, block: usize, k: usize, v: u64)
 }
 
 // The k-th successor of a block, which has n of them: n is handed in, so that a loop over them does not read it each time.
+#[tactic(auto, using(crate::proofs::EdgeLaws::successor_many, crate::proofs::EdgeLaws::successor_few))]
 pub fn successor(s: &[u64], y: Layout, block: usize, n: usize, k: usize) -> u64
     requires { Room y (length s.now) × (block < y.blocks) × (n ≡ word (scratch y s.now) successor_count_cell block) × (k < n) × (successor_at (scratch y s.now) block k < y.blocks) }
     ensures { result ≡ successor_at (scratch y s.now) block k }

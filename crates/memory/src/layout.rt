@@ -1,11 +1,13 @@
 // The layout of the two buffers: where each cell begins.
 ghost use Rattle.std.specs.Prelude.{◌≡◌, ◌+◌, ◌*◌, ◌≤◌, ◌<◌, take, get_or};
-ghost use Rattle.memory.specs.Cells.{total};
+ghost use Rattle.memory.specs.Cells.{total, Covers};
 ghost use Rattle.memory.specs.Names.{uses_row, defines_row, state_row, live_state_row, parameters_row, hosts_row, initialized_row, live_row, await_entry};
-ghost use Rattle.memory.specs.Scratch.{edge_words, scratch_widths, scratch_cells};
-ghost use Rattle.memory.specs.Sets.{sets_widths};
+ghost use Rattle.memory.specs.Scratch.{edge_words, scratch_widths, scratch_cells, Row};
+ghost use Rattle.memory.specs.Sets.{sets_widths, SetsRow, AwaitEntry};
+ghost use Rattle.sizes.specs.Sizes.{scratch_words, sets_words};
 
 use sizes::Layout;
+use std::ops::Range;
 
 // Cells of a word an instruction: where its record stands; a leader mark, then the number of its block; where the k-th block begins; what
 // its reads are charged.
@@ -127,37 +129,31 @@ pub fn edge_words(y: Layout) -> usize
 }
 
 // How wide cell k of scratch is, if it is no row.
+#[tactic(auto, using(crate::proofs::ScratchLaws::widths))]
 pub fn scratch_width(y: Layout, k: usize) -> usize
     requires { (y.blocks ≤ 65536) × (k < 18) × (y.extra ≤ 16777216) }
     ensures { result ≡ get_or (scratch_widths y) k 0 }
 {
-    if k < 4 {
-        return y.instructions;
+    match k {
+        0..=3 => y.instructions,
+        4..=15 => y.blocks,
+        16 => 2 * y.blocks,
+        _ => edge_words(y),
     }
-    if k < 16 {
-        return y.blocks;
-    }
-    if k < 17 {
-        return 2 * y.blocks;
-    }
-    2 * y.blocks + y.extra
 }
 
 // Where cell k of scratch begins.
+#[tactic(auto, using(crate::proofs::ScratchLaws::starts))]
 pub fn scratch_start(y: Layout, k: usize) -> usize
     requires { (y.instructions ≤ 65536) × (y.blocks ≤ 65536) × (y.words ≤ 1024) × (k < scratch_cells y) × (y.extra ≤ 16777216) }
     ensures { result ≡ total (take k (scratch_widths y)) }
 {
-    if k < 4 {
-        return k * y.instructions;
+    match k {
+        0..=3 => k * y.instructions,
+        4..=15 => 4 * y.instructions + (k - 4) * y.blocks,
+        16 | 17 => 4 * y.instructions + 12 * y.blocks + (k - 16) * (2 * y.blocks),
+        _ => scratch_row(y, k).start,
     }
-    if k < 16 {
-        return 4 * y.instructions + (k - 4) * y.blocks;
-    }
-    if k < 18 {
-        return 4 * y.instructions + 12 * y.blocks + (k - 16) * (2 * y.blocks);
-    }
-    4 * y.instructions + 16 * y.blocks + y.extra + (k - 18) * y.words
 }
 
 // Where cell k of the sets buffer begins.
@@ -166,7 +162,44 @@ pub fn sets_start(y: Layout, k: usize) -> usize
     ensures { result ≡ total (take k (sets_widths y)) }
 {
     if k < 2 * y.blocks {
-        return k * y.words;
+        return sets_row(y, k).start;
     }
-    y.blocks * 2 * y.words + (k - 2 * y.blocks) * (1 + y.words)
+    sets_entry(y, k).start
+}
+
+// The words of cell k of scratch, which is no row.
+#[tactic(auto, using(crate::proofs::ScratchLaws::scratch_fits))]
+pub fn scratch_cell(y: Layout, k: usize) -> Range<usize>
+    requires { (y.instructions ≤ 65536) × (y.blocks ≤ 65536) × (y.words ≤ 1024) × (k < 18) × (y.extra ≤ 16777216) }
+    ensures { Covers (scratch_widths y) k (get_or (scratch_widths y) k 0) (scratch_words y) result.start result.end }
+{
+    let start = scratch_start(y, k);
+    start..start + scratch_width(y, k)
+}
+
+// The words of row k of scratch.
+pub fn scratch_row(y: Layout, k: usize) -> Range<usize>
+    requires { (y.instructions ≤ 65536) × (y.blocks ≤ 65536) × (y.words ≤ 1024) × Row y k × (y.extra ≤ 16777216) }
+    ensures { Covers (scratch_widths y) k y.words (scratch_words y) result.start result.end }
+{
+    let start = 4 * y.instructions + 16 * y.blocks + y.extra + (k - 18) * y.words;
+    start..start + y.words
+}
+
+// The words of row k of the sets buffer.
+pub fn sets_row(y: Layout, k: usize) -> Range<usize>
+    requires { (y.blocks ≤ 65536) × (y.words ≤ 1024) × (y.awaits ≤ 65536) × SetsRow y k }
+    ensures { Covers (sets_widths y) k y.words (sets_words y) result.start result.end }
+{
+    let start = k * y.words;
+    start..start + y.words
+}
+
+// The words of entry k of an await there.
+pub fn sets_entry(y: Layout, k: usize) -> Range<usize>
+    requires { (y.blocks ≤ 65536) × (y.words ≤ 1024) × (y.awaits ≤ 65536) × AwaitEntry y k }
+    ensures { Covers (sets_widths y) k (1 + y.words) (sets_words y) result.start result.end }
+{
+    let start = y.blocks * 2 * y.words + (k - 2 * y.blocks) * (1 + y.words);
+    start..start + 1 + y.words
 }

@@ -1,14 +1,12 @@
--- `bitset::common` meets its contract: after k turns `both` is not 0 exactly if the first k words have a slot in common. Assumes nothing.
 use Rattle.std.proofs.Common.{arith}
-use Rattle.bitset.proofs.LoopLaws.{compared_none, compared_more, compared_all, tells_common}
+use Rattle.bitset.proofs.LoopLaws.{tells_common, compared_more, compared_all}
 use Rattle.bitset.proofs.common.Goals as goal
 
 pub loop-k-init : goal.loop-k-init
-loop-k-init c = compared_none tells_common
+loop-k-init c = tells_common.none
 
 pub loop-k-preserved : goal.loop-k-preserved
-loop-k-preserved c =
-    compared_more tells_common c.loop-k.invariant c.requires.0 c.requires.1 (omega arith)
+loop-k-preserved c = compared_more tells_common c.args.a.now c.args.b.now c.requires c.loop-k.k c.loop-k.both (omega arith) c.loop-k.invariant
 
 pub returns : goal.returns
-returns c = compared_all tells_common c.loop-k.invariant (omega arith)
+returns c = compared_all tells_common c.args.a.now c.args.b.now c.requires c.loop-k.k c.loop-k.both (omega arith) c.loop-k.invariant

@@ -1,11 +1,6 @@
-use Rattle.std.proofs.Common.{◌-◌}
-use Rattle.bitset.specs.Operations.{join}
-use Rattle.bitset.specs.Rows.{row}
-use Rattle.bitset.proofs.LoopLaws.{Stored}
+use Rattle.std.proofs.Common.{◌≡◌, bit_or}
+use Rattle.bitset.proofs.ZipLaws.{progress}
 use Rattle.bitset.proofs.join.Given as goal
 
 abbrev pub invariant-loop-k : goal.invariant-loop-k
-invariant-loop-k l = Stored l.initial.dst l.d (join (row l.initial.dst l.d l.w) (row l.src l.s l.w)) l.w l.k l.dst
-
-abbrev pub decreases-loop-k : goal.decreases-loop-k
-decreases-loop-k l = l.w - l.k
+invariant-loop-k l = l.set ≡ progress bit_or l.initial.set l.other l.k

@@ -1,4 +1,3 @@
-use Rattle.std.proofs.Common.{◌-◌}
 use Rattle.bitset.specs.Operations.{join}
 use Rattle.bitset.specs.Rows.{row}
 use Rattle.bitset.proofs.LoopLaws.{Stored}
@@ -6,6 +5,3 @@ use Rattle.bitset.proofs.join_within.Given as goal
 
 abbrev pub invariant-loop-k : goal.invariant-loop-k
 invariant-loop-k l = Stored l.initial.words l.d (join (row l.initial.words l.d l.w) (row l.initial.words l.s l.w)) l.w l.k l.words
-
-abbrev pub decreases-loop-k : goal.decreases-loop-k
-decreases-loop-k l = l.w - l.k

@@ -1,11 +1,6 @@
-use Rattle.std.proofs.Common.{◌-◌}
-use Rattle.bitset.specs.Operations.{meet}
-use Rattle.bitset.specs.Rows.{row}
-use Rattle.bitset.proofs.LoopLaws.{Stored}
+use Rattle.std.proofs.Common.{◌≡◌, bit_and}
+use Rattle.bitset.proofs.ZipLaws.{progress}
 use Rattle.bitset.proofs.meet.Given as goal
 
 abbrev pub invariant-loop-k : goal.invariant-loop-k
-invariant-loop-k l = Stored l.initial.dst l.d (meet (row l.initial.dst l.d l.w) (row l.src l.s l.w)) l.w l.k l.dst
-
-abbrev pub decreases-loop-k : goal.decreases-loop-k
-decreases-loop-k l = l.w - l.k
+invariant-loop-k l = l.set ≡ progress bit_and l.initial.set l.other l.k

@@ -12,11 +12,3 @@ pub get-requires-in-Predecessors : goal.get-requires-in-Predecessors
 get-requires-in-Predecessors c =
     let p = c.requires in
     (search rules, place_blocks _ _ _ (omega arith) (omega arith) p.1)
-
-pub returns-in-Successors : goal.returns-in-Successors
-returns-in-Successors c =
-    rw c.in-Successors.is c.get.ensures
-
-pub returns-in-Predecessors : goal.returns-in-Predecessors
-returns-in-Predecessors c =
-    rw c.in-Predecessors.is c.get-in-Predecessors.ensures
