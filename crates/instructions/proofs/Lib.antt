@@ -1,6 +1,6 @@
 -- Laws of the instructions and slots of a sheet that passed.
-pub mod Below
 pub mod PlacedLaws
+pub mod SlotLaws
 pub mod SetSteps
 pub mod Operands
 pub mod Sound

@@ -1,26 +1,32 @@
 -- The operands of a record whose fields passed the checks: slots below the slot count, targets below N. Assumes nothing.
-use mathlib.Core.Path.{◌≡◌, refl, sym, subst}
+use mathlib.Core.Path.{◌≡◌, refl, ap, sym, subst, ◌∙◌}
 use mathlib.Core.Bool.{Bool, true, false, ◌&&◌, not}
 use mathlib.Core.List.{List, [], ◌∷◌}
+use mathlib.Core.Option.{some}
 use Prim.Native.Nat.{ℕ, zero, suc, ◌+◌, ◌-◌, ◌≤◌, ◌<◌}
 use native.Mathlib.Omega.{arith}
 use borrow.Author.Tests.{leb-false, eqb-true, eqb-false}
 use lib.Dec.{eqb, leb}
-use lib.ListN.{length, get_or, drop, length-drop}
+use lib.ListN.{length, get_or, drop, length-drop, drop_of_length-le}
 use lib.Seq.{get_or-drop}
 use Rattle.operands.specs.Choice.{pick}
 use Rattle.operands.specs.Places.{absent, gathered}
-use Rattle.operands.specs.Patterns.{D, S, Sopt, Dopt, T, role_at, fixed_at, list_at, fits}
-use Rattle.operands.specs.Operands.{inputs_of}
-use Rattle.operands.specs.ByPattern.{places_from, singles}
+use Rattle.operands.specs.Patterns.{D, S, Sopt, Dopt, T, role_at, single_of, fixed_at, list_at, fits}
+use Rattle.operands.specs.Operands.{inputs_of, output_of, targets_of, first_of}
+use Rattle.operands.specs.ByPattern.{places_from, singles, by_pattern}
 use Rattle.operands.specs.Instructions.{single_values}
-use Rattle.operands.proofs.PatternLaws.{role_late}
+use Rattle.operands.proofs.PatternLaws.{role_late, field_there}
 use Rattle.operands.proofs.PlaceLaws.{singles-more}
-use Rattle.operands.proofs.InstructionLaws.{field-there, drop_all, inputs-two}
+use Rattle.operands.proofs.OperandLaws.{inputs_two, targets_single}
+use Rattle.operands.proofs.Agree.{output-agree}
 use Rattle.format.specs.Fields.{no_slot, no_target, any_field}
 use Rattle.format.proofs.Or.{or_none}
 use Rattle.bitset.specs.Below.{AllBelow}
 use Rattle.bitset.proofs.Below.{below-append, below_all}
+
+below-first : (n : ℕ) (l : List ℕ) (x : ℕ) → AllBelow n l → first_of l ≡ some x → x < n
+below-first n [] x a e = let z : ◌≡◌ {A = ℕ} 0 1 = cc in absurd (omega arith)
+below-first n (y ∷ l) x a e = let q : y ≡ x = cc in subst (λ (z : ℕ). z < n) q a.0
 
 -- where a test holds at no field, it does not hold at any one
 no_field : (f : ℕ → ℕ → Bool) (k j : ℕ) (v : List ℕ) → any_field f k j v ≡ false
@@ -50,10 +56,8 @@ slot-below slots x b e n = go (leb slots x) refl b (eqb x absent) refl refl e
 
 -- of a class of operands: those whose role is a, and those whose role is b that are not absent, are below a bound
 record Class (f : ℕ → ℕ → Bool) (a b bound : ℕ) : Type 0 where
-  pub a_low : 1 ≤ a
-  pub a_high : a ≤ 6
-  pub b_low : 1 ≤ b
-  pub b_high : b ≤ 6
+  pub a_single : single_of a ≡ 1
+  pub b_single : single_of b ≡ 1
   pub plain : (x : ℕ) → f a x ≡ false → x < bound
   pub present : (x : ℕ) → f b x ≡ false → (x ≡ absent → ⊥) → x < bound
 
@@ -63,10 +67,8 @@ never e = let z : ◌≡◌ {A = ℕ} 0 1 = cc in absurd (omega arith)
 inputs-class : (slots : ℕ) → Class (no_slot slots) S Sopt slots
 unfolding no_slot
 inputs-class slots = record {
-  a_low = omega arith;
-  a_high = omega arith;
-  b_low = omega arith;
-  b_high = omega arith;
+  a_single = refl;
+  b_single = refl;
   plain = λ x e. slot-below slots x false e (λ q. never q);
   present = λ x e n. slot-below slots x true e (λ q. n);
 }
@@ -74,10 +76,8 @@ inputs-class slots = record {
 output-class : (slots : ℕ) → Class (no_slot slots) D Dopt slots
 unfolding no_slot
 output-class slots = record {
-  a_low = omega arith;
-  a_high = omega arith;
-  b_low = omega arith;
-  b_high = omega arith;
+  a_single = refl;
+  b_single = refl;
   plain = λ x e. slot-below slots x false e (λ q. never q);
   present = λ x e n. slot-below slots x true e (λ q. n);
 }
@@ -85,10 +85,8 @@ output-class slots = record {
 targets-class : (n : ℕ) → Class (no_target n) T T n
 unfolding no_target
 targets-class n = record {
-  a_low = omega arith;
-  a_high = omega arith;
-  b_low = omega arith;
-  b_high = omega arith;
+  a_single = refl;
+  b_single = refl;
   plain = λ x e. leb-false n x e;
   present = λ x e m. leb-false n x e;
 }
@@ -103,11 +101,11 @@ module _ (k : ℕ) (v : List ℕ) (low : 1 ≤ k) (high : k ≤ 41) (fit : fits 
             → AllBelow bound (pick p (get_or v j absent ∷ []) (pick q (pick r [] (get_or v j absent ∷ [])) []))
         go true p q q' r r' =
             let e = eqb-true (role_at k j) a p in
-            (c.plain (get_or v j absent) (rw e at (ok j (field-there k (length v) j a low high fit h (sym e) c.a_low c.a_high))), tt)
+            (c.plain (get_or v j absent) (rw e at (ok j (field_there k (length v) j low high fit h (ap single_of e ∙ c.a_single)))), tt)
         go false p true q true r = tt
         go false p true q false r =
             let e = eqb-true (role_at k j) b q in (
-              c.present (get_or v j absent) (rw e at (ok j (field-there k (length v) j b low high fit h (sym e) c.b_low c.b_high)))
+              c.present (get_or v j absent) (rw e at (ok j (field_there k (length v) j low high fit h (ap single_of e ∙ c.b_single))))
                   (eqb-false (get_or v j absent) absent r),
               tt,
             )
@@ -144,16 +142,20 @@ module _ (k : ℕ) (v : List ℕ) (low : 1 ≤ k) (high : k ≤ 41) (fit : fits 
             simp get_or-drop (listed_at i q j))
         go false q e =
             let z = eqb-true (length v) (fixed_at k) e in
-            subst (AllBelow slots) (sym (drop_all (fixed_at k) v z)) tt
+            subst (AllBelow slots) (sym (drop_of_length-le v {i = fixed_at k} (omega arith))) tt
 
     pub inputs_ok : AllBelow slots (inputs_of k v)
     inputs_ok =
         let r = singles-below (no_slot slots) ok S Sopt slots (inputs-class slots) 4 0 (omega arith) in
-        subst (AllBelow slots) (sym (inputs-two k v low high fit))
+        subst (AllBelow slots) (sym (inputs_two k v low high fit))
         (below-append slots (drop (fixed_at k) v) (gathered (singles S Sopt k) v) listed_below r)
 
-    pub outputs_ok : AllBelow slots (gathered (singles D Dopt k) v)
-    outputs_ok = singles-below (no_slot slots) ok D Dopt slots (output-class slots) 4 0 (omega arith)
+    pub output_ok : (x : ℕ) → output_of k v ≡ some x → x < slots
+    unfolding by_pattern
+    output_ok x e =
+        below-first slots (gathered (singles D Dopt k) v) x (singles-below (no_slot slots) ok D Dopt slots (output-class slots) 4 0 (omega arith))
+        (sym (output-agree k v low high) ∙ e)
 
-  pub targets_ok : (n : ℕ) → ((j : ℕ) → j < length v → no_target n (role_at k j) (get_or v j absent) ≡ false) → AllBelow n (gathered (singles T T k) v)
-  targets_ok n ok = singles-below (no_target n) ok T T n (targets-class n) 4 0 (omega arith)
+  pub targets_ok : (n : ℕ) → ((j : ℕ) → j < length v → no_target n (role_at k j) (get_or v j absent) ≡ false) → AllBelow n (targets_of k v)
+  targets_ok n ok =
+      subst (AllBelow n) (sym (targets_single k v low high)) (singles-below (no_target n) ok T T n (targets-class n) 4 0 (omega arith))

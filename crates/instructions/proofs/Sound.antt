@@ -6,23 +6,20 @@ use mathlib.Core.Option.{none, some}
 use Prim.Native.Nat.{ℕ, zero, suc, ◌+◌, ◌/◌, ◌≤◌, ◌<◌}
 use native.Mathlib.Omega.{arith}
 use lib.ListN.{length, get_or}
-use Rattle.operands.specs.Places.{gathered, absent}
+use Rattle.std.specs.Prelude.{Result, Ok}
 use Rattle.operands.specs.Choice.{pick}
 use Rattle.operands.specs.Kinds.{is_await}
 use Rattle.operands.specs.Bytes.{numbers_at}
-use Rattle.operands.specs.Patterns.{D, Dopt, role_at, fits}
+use Rattle.operands.specs.Patterns.{fits}
 use Rattle.operands.specs.Operands.{inputs_of, output_of, targets_of}
-use Rattle.operands.specs.ByPattern.{singles}
-use Rattle.operands.specs.Instructions.{Readable, values_of, value_of}
-use Rattle.operands.specs.declared.instruction.Instruction.{Instruction}
-use Rattle.operands.proofs.InstructionLaws.{values-count, view_output, view_targets}
+use Rattle.operands.proofs.NumberLaws.{number_count}
 use Rattle.format.specs.Heads.{kind_at, end_at, body_length, fields_at}
 use Rattle.format.specs.Fields.{no_slot, no_target}
 use Rattle.format.proofs.HeadLaws.{lies}
 use Rattle.records.specs.Records.{slot_fault, instruction_fault}
 use Rattle.records.proofs.Passed.{InstructionPassed, parameters-passed, slot-passed, instruction-passed, none_above}
 use Rattle.sheet.specs.declared.script.Script.{Script}
-use Rattle.sheet.specs.declared.script.Checked.TheVariants.{Passed}
+use Rattle.sheet.specs.declared.script.Refused.{Refused}
 use Rattle.sheet.specs.Decode.{
   slots_in,
   count_in,
@@ -37,17 +34,14 @@ use Rattle.sheet.specs.Decode.{
   parts_of,
   decode,
 }
-use Rattle.sheet.specs.declared.script.Checked.{Checked}
 use Rattle.sheet.specs.Checks.{Checks}
 use Rattle.sheet.specs.Scripts.{awaits_in, script_of, checked_of}
 use Rattle.sheet.proofs.Checked.{clean, each_none, sized, offset_up, passed}
 use Rattle.sheet.proofs.WordLaws.{few_words, behind-words}
-use Rattle.instructions.specs.Placed.{placed_at}
 use Rattle.bitset.specs.Below.{AllBelow}
 use Rattle.instructions.specs.Sound.{Sound}
-use Rattle.instructions.proofs.Below.{below-nth}
-use Rattle.instructions.proofs.Operands.{no_field_at, inputs_ok, outputs_ok, targets_ok}
-use Rattle.instructions.proofs.PlacedLaws.{no_host}
+use Rattle.instructions.proofs.Operands.{no_field_at, inputs_ok, output_ok, targets_ok}
+use Rattle.instructions.proofs.SlotLaws.{no_host}
 use Rattle.instructions.proofs.SetSteps.{offset-next}
 
 -- what stands in the k-th record
@@ -75,59 +69,30 @@ awaits-few s at (suc n) = go (is_await (kind_at s at)) (awaits-few s (end_at s a
     go true h = omega arith
     go false h = omega arith
 
--- the instruction of a record
-abbrev here : List ℕ → ℕ → Instruction
-here s at = (placed_at s at).instruction
-
--- the values of an instruction are the fields of its record
-same-values : (s : List ℕ) (at : ℕ) → values_of s (here s at) ≡ fields_at s at
-unfolding placed_at values_of fields_at
-same-values s at = refl
-
 -- what is known of an instruction whose record passed
 record Good (s : List ℕ) (slots n at : ℕ) : Type 0 where
-  pub readable : Readable s (here s at)
-  pub inputs : AllBelow slots (inputs_of (here s at).pattern.kind (values_of s (here s at)))
-  pub output : (x : ℕ) → output_of (here s at).pattern.kind (values_of s (here s at)) ≡ some x → x < slots
-  pub targets : AllBelow n (targets_of (here s at).pattern.kind (values_of s (here s at)))
+  pub readable : fits (kind_at s at) (length (fields_at s at)) ≡ true
+  pub inputs : AllBelow slots (inputs_of (kind_at s at) (fields_at s at))
+  pub output : (x : ℕ) → output_of (kind_at s at) (fields_at s at) ≡ some x → x < slots
+  pub targets : AllBelow n (targets_of (kind_at s at) (fields_at s at))
 
 good : (s : List ℕ) (slots n at : ℕ) → InstructionPassed s slots n at → Good s slots n at
-unfolding placed_at
+unfolding fields_at
 good s slots n at p =
+    let slots_ok = no_field_at (no_slot slots) (kind_at s at) (fields_at s at) p.slots_there in
+    let targets_there = no_field_at (no_target n) (kind_at s at) (fields_at s at) p.targets_there in
     record {
-      readable = r;
-      inputs = inputs_ok k v p.low p.high fit slots slots_ok;
-      output = λ x e. below-nth slots (gathered (singles D Dopt k) v) 0 x (outputs_ok k v p.low p.high fit slots slots_ok)
-          (sym (view_output s (here s at) r) ∙ ap value_of e);
-      targets = subst (AllBelow n) (sym (view_targets s (here s at) r)) (targets_ok k v p.low p.high fit n targets_there);
+      readable = fit;
+      inputs = inputs_ok (kind_at s at) (fields_at s at) p.low p.high fit slots slots_ok;
+      output = output_ok (kind_at s at) (fields_at s at) p.low p.high fit slots slots_ok;
+      targets = targets_ok (kind_at s at) (fields_at s at) p.low p.high fit n targets_there;
     }
   where
-    k : ℕ
-    k = kind_at s at
-
-    v : List ℕ
-    v = values_of s (placed_at s at).instruction
-
-    r : Readable s (placed_at s at).instruction
-    r =
-        let w = lies s at p.whole in
-        record { known = record { low = p.low; high = p.high; own = refl }; fitting = p.fitting; within = omega (arith, w.ordered, w.within) }
-
-    fit : fits (kind_at s at) (length (values_of s (placed_at s at).instruction)) ≡ true
-    fit = ap (fits (kind_at s at)) (values-count s (placed_at s at).instruction) ∙ p.fitting
-
-    slots_ok : (j : ℕ) → j < length (values_of s (placed_at s at).instruction)
-        → no_slot slots (role_at (kind_at s at) j) (get_or (values_of s (placed_at s at).instruction) j absent) ≡ false
-    slots_ok j h =
-        no_field_at (no_slot slots) (kind_at s at) (values_of s (placed_at s at).instruction) (rw (same-values s at) p.slots_there) j h
-
-    targets_there : (j : ℕ) → j < length (values_of s (placed_at s at).instruction)
-        → no_target n (role_at (kind_at s at) j) (get_or (values_of s (placed_at s at).instruction) j absent) ≡ false
-    targets_there j h =
-        no_field_at (no_target n) (kind_at s at) (values_of s (placed_at s at).instruction) (rw (same-values s at) p.targets_there) j h
+    fit : fits (kind_at s at) (length (fields_at s at)) ≡ true
+    fit = ap (fits (kind_at s at)) (number_count s (at + 4) (body_length s at / 4)) ∙ p.fitting
 
 sound_script : (s : List ℕ) → refusal s ≡ none → Sound s (script_of s)
-unfolding script_of decode parts_of placed_at fields_at
+unfolding script_of decode parts_of fields_at
 sound_script s e =
     let c = clean s e in
     let z = sized s c in
@@ -168,8 +133,7 @@ sound_script s e =
       inside = λ k h. let f = offset-far s (code_at s) k (count_in s) h in omega (arith, z.ends);
       ends = z.ends;
       instruction_is = λ k h.
-          record-at (instruction_of s) s (code_at s) (count_in s) k (record { kind = 0; fields = [] }) h
-          ∙ ap (λ (v : List ℕ). record { kind = kind_at s (offset_of s (code_at s) k); fields = v }) (sym (same-values s (offset_of s (code_at s) k)));
+          record-at (instruction_of s) s (code_at s) (count_in s) k (record { kind = 0; fields = [] }) h;
       readable = λ k h. (ok k h).readable;
       inputs_below = λ k h. (ok k h).inputs;
       output_below = λ k y h. (ok k h).output y;
@@ -181,11 +145,11 @@ sound_script s e =
     same_params s = refl
 
 -- whatever the check passed is sound
-pub sound : (s : List ℕ) (x : Script) → checked_of s ≡ Passed x → Sound s x
+pub sound : (s : List ℕ) (x : Script) → checked_of s ≡ Ok x → Sound s x
 sound s x e =
     let p = passed s x e in
     subst (Sound s) (sym p.1) (sound_script s p.0)
 
 -- the same from what `check` ensures
-pub sound-checked : (s : List ℕ) (r : Checked) (x : Script) → Checks s r → r ≡ Passed x → Sound s x
+pub sound-checked : (s : List ℕ) (r : Result Script Refused) (x : Script) → Checks s r → r ≡ Ok x → Sound s x
 sound-checked s r x c e = sound s x (sym c.answer ∙ e)

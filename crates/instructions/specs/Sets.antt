@@ -6,7 +6,7 @@ use Rattle.operands.specs.Patterns.{among}
 use Rattle.bitset.specs.Operations.{inserted}
 use Rattle.format.specs.Types.{absent}
 use Rattle.sheet.specs.Decode.{SlotKind, Parts, slot_of, records_from, offset_of, is_host}
-use Rattle.instructions.specs.declared.sets.HostWord.{HostWord}
+use Rattle.instructions.specs.declared.sets.SlotWord.{SlotWord}
 
 -- a set with these slots put in
 unfoldable pub inserted_all : List ℕ → List ℕ → List ℕ
@@ -23,9 +23,9 @@ unfoldable pub host_bits : List SlotKind → ℕ → ℕ → ℕ
 host_bits [] k bits = bits
 host_bits (x ∷ xs) k bits = host_bits xs (k + 1) (bit_or bits (pick (is_host x) (2 ^ (k % 64)) 0))
 
--- a word with those of n slots, whose records stand from an offset on, that are host slots, and where the record behind them begins
-unfoldable pub host_word_at : List ℕ → ℕ → ℕ → ℕ → HostWord
-host_word_at s at n word = record { bits = host_bits (records_from (slot_of s) s at n) 0 word; next = offset_of s at n }
+-- the bits of those of n slots, whose records stand from an offset on, that are host slots, and where the record behind them begins
+unfoldable pub host_word_at : List ℕ → ℕ → ℕ → SlotWord
+host_word_at s at n = record { bits = host_bits (records_from (slot_of s) s at n) 0 0; next = offset_of s at n }
 
 -- the set of parameters in w words
 unfoldable pub parameter_row : Parts → ℕ → List ℕ

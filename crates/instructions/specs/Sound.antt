@@ -4,29 +4,26 @@ use Rattle.std.proofs.Math.Option.{some}
 use Rattle.operands.specs.Bytes.{numbers_at}
 use Rattle.operands.specs.Kinds.{ends_block}
 use Rattle.operands.specs.Operands.{inputs_of, output_of, targets_of}
-use Rattle.operands.specs.Instructions.{Readable, values_of}
-use Rattle.operands.specs.declared.instruction.Instruction.{Instruction}
+use Rattle.operands.specs.Patterns.{fits}
+use Rattle.format.specs.Heads.{kind_at, end_at, fields_at}
 use Rattle.repeats.specs.Repeats.{any_twice}
 use Rattle.sheet.specs.declared.script.Script.{Script}
 use Rattle.sheet.specs.Decode.{SlotKind, slot_of, instruction_of, records_from, offset_of, parts_of, parts, decode, is_host}
 use Rattle.sheet.specs.Scripts.{awaits_in}
-use Rattle.instructions.specs.Placed.{Stands, placed_at}
+use Rattle.instructions.specs.Placed.{Stands}
 use Rattle.instructions.specs.Slots.{SlotsStand}
 use Rattle.bitset.specs.Below.{AllBelow}
 
--- where the k-th instruction record stands, and its instruction
+-- where the k-th instruction record stands
 abbrev pub code_offset : List ℕ → Script → ℕ → ℕ
 code_offset s x k = offset_of s x.code_at k
 
-abbrev pub code_instruction : List ℕ → Script → ℕ → Instruction
-code_instruction s x k = (placed_at s (code_offset s x k)).instruction
-
 -- its kind, and the values of its fields
 abbrev pub code_kind : List ℕ → Script → ℕ → ℕ
-code_kind s x k = (code_instruction s x k).pattern.kind
+code_kind s x k = kind_at s (code_offset s x k)
 
 abbrev pub code_values : List ℕ → Script → ℕ → List ℕ
-code_values s x k = values_of s (code_instruction s x k)
+code_values s x k = fields_at s (code_offset s x k)
 
 pub record Sound (s : List ℕ) (x : Script) : Type 0 where
   -- the sheet has parts, and the script says where they stand
@@ -55,13 +52,13 @@ pub record Sound (s : List ℕ) (x : Script) : Type 0 where
   pub hosts_before : (k : ℕ) → 64 * x.host_words ≤ k → k < x.slots → is_host (slot_of s (offset_of s x.slots_at k)) ≡ false
   -- so do the instruction records, up to the end of the sheet, and each holds its instruction
   pub stands : (k : ℕ) → k < x.count → Stands s (code_offset s x k)
-  pub next_is : (k : ℕ) → (placed_at s (code_offset s x k)).next ≡ code_offset s x (suc k)
+  pub next_is : (k : ℕ) → end_at s (code_offset s x k) ≡ code_offset s x (suc k)
   pub inside : (k : ℕ) → k ≤ x.count → code_offset s x k ≤ length s
   pub ends : code_offset s x x.count ≡ length s
   pub instruction_is : (k : ℕ) → k < x.count
       → get_or (parts_of s).code k (record { kind = 0; fields = [] }) ≡ record { kind = code_kind s x k; fields = code_values s x k }
-  -- each instruction can be read, its slots are slots of the function and its targets instructions
-  pub readable : (k : ℕ) → k < x.count → Readable s (code_instruction s x k)
+  -- the fields of each instruction fit its kind, its slots are slots of the function and its targets instructions
+  pub readable : (k : ℕ) → k < x.count → fits (code_kind s x k) (length (code_values s x k)) ≡ true
   pub inputs_below : (k : ℕ) → k < x.count → AllBelow x.slots (inputs_of (code_kind s x k) (code_values s x k))
   pub output_below : (k y : ℕ) → k < x.count → output_of (code_kind s x k) (code_values s x k) ≡ some y → y < x.slots
   pub targets_below : (k : ℕ) → k < x.count → AllBelow x.count (targets_of (code_kind s x k) (code_values s x k))

@@ -2,6 +2,7 @@
 use mathlib.Core.Path.{◌≡◌, refl}
 use mathlib.Core.List.{List, [], ◌∷◌}
 use Prim.Native.Nat.{ℕ}
+use Rattle.std.specs.Prelude.{Ok}
 use Rattle.dataflow.specs.Worklist.{run}
 use Rattle.dataflow.specs.Framework.{solution}
 use Rattle.dataflow.specs.FlowGraph.{init_at_entry, live_at_entry}
@@ -29,7 +30,6 @@ use Rattle.answer.specs.Words.{number_of, words_from}
 use Rattle.outcome.specs.Outcome.{Lengths, Outcome, accepted, outcome_of}
 use Rattle.outcome.specs.Buffers.{padded, sets_after}
 use Rattle.outcome.specs.Sheets.{Line, sheet_of}
-use Rattle.load.specs.declared.Loaded.TheVariants.{Is}
 use Rattle.load.specs.Load.{set_load, load_of, loaded_of}
 
 -- an instruction; the kinds used: 1 `Await`, 14 `MakeTuple`, 40 `Return`
@@ -47,7 +47,7 @@ at work retained = record { work = work; retained = retained }
 pub record Loads (sheet : List ℕ) (o : Outcome) (blocks awaits : ℕ) (sets : List ℕ) (load : ℕ) : Type 0 where
   pub answer : outcome_of sheet (parameter_in (parts_of sheet)) todays lent (at 0 0) ≡ o
   pub words : sets_after sheet (parameter_in (parts_of sheet)) lent o ≡ padded 12 sets
-  pub is : loaded_of sheet (padded 12 sets) blocks awaits ≡ Is 7 load
+  pub is : loaded_of sheet (padded 12 sets) blocks awaits ≡ Ok (record { id = 7; load = load })
 
 pub record Cases : Type 0 where
   -- document 01's d, two slots, parameter 0: `Await` D1 S0, `Return` 1: set {0}, "accept 7 blocks 1 awaits 1 load 1"

@@ -1,7 +1,6 @@
 -- The laws of the definitions of specs/.
 pub mod Sums
 pub mod WordCounts
-pub mod RoomLaws
 pub mod CountLaws
 pub mod LoadLaws
 pub mod WeightLaws

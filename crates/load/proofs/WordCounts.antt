@@ -6,8 +6,8 @@ use Prim.Native.Nat.{ℕ, zero, suc, ◌+◌, ◌*◌, ◌/◌, ◌%◌, ◌^◌
 use native.Mathlib.Nat.{pow-suc, mod-lt, zero-lt-suc, div-one, one-mul, zero-mul}
 use native.Mathlib.Omega.{arith}
 use mir.Val.{bool_byte}
-use lib.Bits.{bit_and, bit_or, and_zero_r, and_step, and_le_r, or_shifted_r}
-use lib.Count.{ones, ones_step, ones-le}
+use lib.Bits.{bit_and, bit_or, and_zero_r, and_step, or_shifted_r}
+use lib.Count.{ones, ones_step}
 use lib.Dec.{eqb, ltb, leb}
 use lib.ListN.{get_or}
 use borrow.Author.Tests.{leb-true, leb-false, le-ltb, lt-ltb}
@@ -112,13 +112,6 @@ ones-common f (suc n) k x =
         ap₂ (λ (d j : ℕ). pick (eqb d 1) (one (f j)) 0)
         (ap (digit (x / 2)) z ∙ sym (digit-next x i) ∙ ap (digit x) (sym o)) p
 
--- of a word there are at most 64
-pub common-few : (x y : ℕ) → y < 2 ^ 64 → ones (bit_and x y) ≤ 64
-common-few x y h = ones-le 64 (bit_and x y) (le_lt (bit_and x y) y (2 ^ 64) (and_le_r x y) h)
-  where
-    le_lt : (a b c : ℕ) → a ≤ b → b < c → a < c
-    le_lt a b c l m = omega arith
-
 -- ---- a slot's weight as a bit
 pub weight_one : (k : SlotKind) → one (ltb 1 k.physical) ≡ weight_of k
 weight_one k = go (leb k.physical 1) refl
@@ -128,8 +121,8 @@ weight_one k = go (leb k.physical 1) refl
     go false e = ap one (lt-ltb 1 k.physical (leb-false _ _ e))
 
 -- the bit that the code makes of a test
-pub bit-made : {t : Bool} (physical k : ℕ) → k < 64 → t ≡ ltb 1 physical → bool_byte t * 2 ^ k % 2 ^ 64 ≡ one (ltb 1 physical) * 2 ^ k
-bit-made {t} physical k h e = ap (λ (b : Bool). bool_byte b * 2 ^ k % 2 ^ 64) e ∙ go (ltb 1 physical)
+pub bit-made : (physical v k : ℕ) → k < 64 → v ≡ bool_byte (ltb 1 physical) → v * 2 ^ k % 2 ^ 64 ≡ one (ltb 1 physical) * 2 ^ k
+bit-made physical v k h e = ap (λ (x : ℕ). x * 2 ^ k % 2 ^ 64) e ∙ go (ltb 1 physical)
   where
     go : (b : Bool) → bool_byte b * 2 ^ k % 2 ^ 64 ≡ one b * 2 ^ k
     go true = mask k h ∙ sym (one-mul (2 ^ k))

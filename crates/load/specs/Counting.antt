@@ -6,23 +6,16 @@ use Rattle.bitset.specs.Sets.{member}
 use Rattle.dataflow.specs.Lists.{pick, tabulate, sum}
 use Rattle.answer.specs.Words.{number_of}
 use Rattle.answer.specs.Held.{row_at}
-use Rattle.sheet.specs.declared.script.Script.{Script}
-use Rattle.sheet.specs.declared.script.Checked.TheVariants as checking
 use Rattle.sheet.specs.Decode.{slot_of, offset_of}
-use Rattle.sheet.specs.Checks.{Checks}
 use Rattle.load.specs.Load.{weight_of}
-use Rattle.load.specs.declared.weights.Weights.{Weights}
-
--- a sheet passed the checks as this script
-abbrev pub PassedAs : List ℕ → Script → Type 0
-PassedAs s x = Checks s (checking.Passed x)
+use Rattle.instructions.specs.declared.sets.SlotWord.{SlotWord}
 
 -- whether the slot of the k-th record from an offset on weighs
 abbrev pub weighs : List ℕ → ℕ → ℕ → Bool
 weighs s at k = ltb 1 (slot_of s (offset_of s at k)).physical
 
 -- the word of the weights of n slots, and where the record behind them begins
-unfoldable pub weights_at : List ℕ → ℕ → ℕ → Weights
+unfoldable pub weights_at : List ℕ → ℕ → ℕ → SlotWord
 weights_at s at n = record { bits = number_of (weighs s at) 0 n; next = offset_of s at n }
 
 -- the first word of the k-th await's set

@@ -1,6 +1,6 @@
 -- The load of an answer: "load (slots summed over all await sets)". Request 4: "A unit or never slot (physical 1 or 0) holds nothing, so it weighs
 -- nothing in the load. It stays in the await set .. The total is worked out from the sets themselves, slot by slot".
-use Rattle.std.specs.Prelude.{Bool, List, map, ℕ, ◌+◌, ◌*◌, ◌-◌, ◌/◌, ◌^◌, min, leb, ltb, length, get_or}
+use Rattle.std.specs.Prelude.{Bool, List, map, ℕ, ◌+◌, ◌*◌, ◌-◌, ◌/◌, ◌^◌, min, leb, ltb, length, get_or, Result, Ok, Err}
 use Rattle.std.proofs.Math.Option.{Option, none, some}
 use Rattle.dataflow.specs.Lists.{pick, range, tabulate, keep, sum}
 use Rattle.answer.specs.Held.{await_set}
@@ -8,8 +8,8 @@ use Rattle.format.specs.declared.refusal.Refusal.{Refusal}
 use Rattle.format.specs.declared.refusal.Refusal.TheVariants.{NoRoom}
 use Rattle.format.specs.Types.{absent}
 use Rattle.sheet.specs.Decode.{SlotKind, Parts, parts_of, refusal, id_of}
+use Rattle.sheet.specs.declared.script.Refused.{Refused}
 use Rattle.load.specs.declared.Loaded.{Loaded}
-use Rattle.load.specs.declared.Loaded.TheVariants.{Is, Refused}
 
 -- what a saved slot weighs: never (physical 0) and unit (1) nothing, all others 1
 abbrev pub weight_of : SlotKind → ℕ
@@ -36,10 +36,10 @@ abbrev pub saturated : ℕ → ℕ
 saturated n = min (2 ^ 64 - 1) n
 
 -- the answer: the refusal of the sheet; 10 if the sets have fewer words than the numbers ask for; else the load. All with the function id.
-abbrev pub loaded_by : Option Refusal → List ℕ → List ℕ → ℕ → ℕ → Loaded
-loaded_by (some r) s v blocks awaits = Refused r (id_of s)
-loaded_by none s v blocks awaits = pick (ltb (length v) (words_needed (parts_of s) blocks awaits)) (Refused NoRoom (id_of s))
-    (Is (id_of s) (saturated (load_of (parts_of s) v blocks awaits)))
+abbrev pub loaded_by : Option Refusal → List ℕ → List ℕ → ℕ → ℕ → Result Loaded Refused
+loaded_by (some r) s v blocks awaits = Err (record { why = r; id = id_of s })
+loaded_by none s v blocks awaits = pick (ltb (length v) (words_needed (parts_of s) blocks awaits)) (Err (record { why = NoRoom; id = id_of s }))
+    (Ok (record { id = id_of s; load = saturated (load_of (parts_of s) v blocks awaits) }))
 
-unfoldable pub loaded_of : List ℕ → List ℕ → ℕ → ℕ → Loaded
+unfoldable pub loaded_of : List ℕ → List ℕ → ℕ → ℕ → Result Loaded Refused
 loaded_of s v blocks awaits = loaded_by (refusal s) s v blocks awaits

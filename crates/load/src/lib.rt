@@ -3,115 +3,76 @@
 
 pub mod weights;
 
-ghost use Rattle.std.specs.Prelude.{◌≡◌, ◌+◌, ◌*◌, ◌/◌, ◌≤◌, ◌<◌, leb, length};
+ghost use Rattle.std.specs.Prelude.{◌≡◌, ◌+◌, ◌*◌, ◌/◌, ◌≤◌, ◌<◌, length, take, drop, MatchOption};
 ghost use Rattle.instructions.specs.Slots.{SlotsStand};
 ghost use Rattle.load.specs.Load.{saturated, loaded_of};
-ghost use Rattle.load.specs.Counting.{PassedAs, load_below, word_load};
+ghost use Rattle.load.specs.Counting.{load_below, word_load};
 
 use format::refusal::Refusal;
-use sheet::script::{Checked, Script};
+use sheet::script::Refused;
 
-// The function's id and the load; or the refusal, with the function's id.
-#[derive(Clone, Copy)]
-pub enum Loaded {
-    Is(u32, u64),
-    Refused(Refusal, u32),
+// The function's id and the load.
+#[derive(Clone, Copy, PartialEq, Eq, Debug)]
+pub struct Loaded {
+    pub id: u32,
+    pub load: u64,
 }
 
 // Any bytes, any words and any numbers of blocks and awaits. A sheet that does not pass the checks is refused, and so are, with 10, sets that have
 // fewer words than such an answer takes.
-pub fn load(sheet: &[u8], sets: &[u64], blocks: usize, awaits: usize) -> Loaded
+pub fn load(sheet: &[u8], sets: &[u64], blocks: usize, awaits: usize) -> Result<Loaded, Refused>
     ensures { result ≡ loaded_of sheet.now sets.now blocks awaits }
 {
-    match sheet::check(sheet) {
-        Checked::Refused(r, id) => Loaded::Refused(r, id),
-        Checked::Passed(script) => passed(sheet, script, sets, blocks, awaits),
-    }
+    let script = sheet::check(sheet)?;
+    let id = script.id;
+    let w = script.slots.div_ceil(64);
+    let Some(entries) = await_entries(sets, w, blocks, awaits) else {
+        return Err(Refused {
+            why: Refusal::NoRoom,
+            id,
+        });
+    };
+    let load = count(sheet, script.slots_at, script.slots, entries, w);
+    Ok(Loaded { id, load })
 }
 
-// The same of a sheet that passed the checks.
-fn passed(sheet: &[u8], script: Script, sets: &[u64], blocks: usize, awaits: usize) -> Loaded
-    requires { PassedAs sheet.now script }
-    ensures { result ≡ loaded_of sheet.now sets.now blocks awaits }
-{
-    let w = (script.slots + 63) / 64;
-    if has_room(sets.len(), w, blocks, awaits) {
-        let total = count(
-            sheet,
-            script.slots_at,
-            script.slots,
-            sets,
-            blocks * (2 * w),
-            w,
-            awaits,
-        );
-        return Loaded::Is(script.id, total);
-    }
-    Loaded::Refused(Refusal::NoRoom, script.id)
-}
-
-// Whether n words hold so many blocks' and awaits' sets of w words each. No product is made that might not fit.
-fn has_room(n: usize, w: usize, blocks: usize, awaits: usize) -> bool
+// The words of the awaits, each an instruction and then a set, behind the sets of the blocks; or none if there are not so many words.
+fn await_entries(sets: &[u64], w: usize, blocks: usize, awaits: usize) -> Option<&[u64]>
     requires { w ≤ 1024 }
-    ensures { result ≡ leb (blocks * (2 * w) + awaits * (1 + w)) n }
+    ensures { MatchOption result (length sets.now < blocks * (2 * w) + awaits * (1 + w)) (λ r. (blocks * (2 * w) + awaits * (1 + w) ≤ length sets.now) × (r.now ≡ take (awaits * (1 + w)) (drop (blocks * (2 * w)) sets.now))) }
 {
-    if awaits > n / (1 + w) {
-        return false;
-    }
-    if w == 0 {
-        return true;
-    }
-    blocks <= (n - awaits * (1 + w)) / (2 * w)
+    let first = blocks.checked_mul(2 * w)?;
+    let words = awaits.checked_mul(1 + w)?;
+    sets.get(first..)?.get(..words)
 }
 
-// The load of the awaits' sets, the first of which begins behind word `first`: a word of 64 slots at a time, in all of them.
-fn count(
-    s: &[u8],
-    at: usize,
-    slots: usize,
-    sets: &[u64],
-    first: usize,
-    w: usize,
-    awaits: usize,
-) -> u64
-    requires { (SlotsStand s.now at slots) × (slots ≤ 64 * w) × (w ≤ 1024) × (first + awaits * (1 + w) ≤ length sets.now) }
-    ensures { result ≡ saturated (load_below s.now at sets.now w first awaits slots) }
+// The load of the awaits' sets: a word of 64 slots at a time, in all of them.
+fn count(s: &[u8], at: usize, slots: usize, entries: &[u64], w: usize) -> u64
+    requires { (SlotsStand s.now at slots) × (w ≡ (slots + 63) / 64) × (w ≤ 1024) }
+    ensures { result ≡ saturated (load_below s.now at entries.now w 0 (length entries.now / (1 + w)) slots) }
 {
     let mut total = 0;
     let mut next = at;
-    let mut k = 0;
-    let mut j = 0;
-    while k < slots {
-        let n = records::record::smaller(slots - k, 64);
+    let mut left = slots;
+    for j in 0..w {
+        let n = left.min(64);
         let word = weights::weight_word(s, next, n);
-        total = count_word(sets, word.bits, first, j, w, awaits, total);
+        total = count_word(entries, word.bits, j, w, total);
         next = word.next;
-        k += n;
-        j += 1;
+        left -= n;
     }
     total
 }
 
 // A total with the slots added that word j of each await's set has in common with the weights.
-fn count_word(
-    sets: &[u64],
-    weights: u64,
-    first: usize,
-    j: usize,
-    w: usize,
-    awaits: usize,
-    from: u64,
-) -> u64
-    requires { (j < w) × (first + awaits * (1 + w) ≤ length sets.now) }
-    ensures { result ≡ saturated (from + word_load sets.now weights w first awaits j) }
+fn count_word(entries: &[u64], weights: u64, j: usize, w: usize, from: u64) -> u64
+    requires { (j < w) × (w ≤ 1024) }
+    ensures { result ≡ saturated (from + word_load entries.now weights w 0 (length entries.now / (1 + w)) j) }
 {
     let mut total = from;
-    let mut at = first;
-    let mut k = 0;
-    while k < awaits {
-        total = budget::saturating_add(total, u64::count_ones(sets[at + 1 + j] & weights) as u64);
-        at += 1 + w;
-        k += 1;
+    for entry in entries.chunks_exact(1 + w) {
+        let common = entry[1 + j] & weights;
+        total = total.saturating_add(u64::from(common.count_ones()));
     }
     total
 }

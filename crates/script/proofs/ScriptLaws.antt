@@ -7,8 +7,9 @@ use mathlib.Core.Option.{Option, none, some}
 use Prim.Native.Nat.{ℕ, suc, ◌-◌, ◌≤◌, ◌<◌}
 use native.Mathlib.Decide.{dec_lt}
 use native.Mathlib.Omega.{arith}
-use lib.Dec.{T}
+use lib.Dec.{T, eqb, eqb→eq}
 use lib.ListN.{length, length-map, get_or-eq_default}
+use Rattle.std.proofs.lemmas.List.{nil_from_length}
 use Rattle.dataflow.specs.Lists.{elem}
 use Rattle.dataflow.specs.Code as flow
 use Rattle.dataflow.specs.Checked.{Checked}
@@ -18,13 +19,11 @@ use Rattle.operands.specs.Places.{Place, gathered}
 use Rattle.operands.specs.Variants.{variants, jump_targets}
 use Rattle.operands.specs.Operands.{by_source, inputs_of, output_of, targets_of}
 use Rattle.operands.proofs.Table.{at_kind}
-use Rattle.operands.proofs.PlaceLaws.{has_no_place, no_place}
-use Rattle.operands.specs.Instructions.{values_of}
 use Rattle.sheet.specs.declared.script.Script.{Script}
 use Rattle.sheet.specs.Decode.{Instruction, parts_of, instruction_of}
 use Rattle.bitset.specs.Below.{AllBelow}
 use Rattle.bitset.proofs.Below.{below-mem}
-use Rattle.instructions.specs.Sound.{Sound, code_instruction}
+use Rattle.instructions.specs.Sound.{Sound, code_kind, code_values}
 use Rattle.instructions.proofs.SetMembers.{records-count}
 use Rattle.script.specs.Script.{list_of, flow_instruction, flow_code, parameter_in}
 
@@ -42,7 +41,7 @@ module _ (s : List ℕ) (x : Script) (h : Sound s x) where
 
   -- the k-th instruction, as it is read where it stands
   abbrev pub read : ℕ → Instruction
-  read k = record { kind = (code_instruction s x k).pattern.kind; fields = values_of s (code_instruction s x k) }
+  read k = record { kind = code_kind s x k; fields = code_values s x k }
 
   code-count : length (parts_of s).code ≡ x.count
   code-count = ap length h.code_are ∙ records-count (instruction_of s) s x.code_at x.count
@@ -94,22 +93,33 @@ module _ (s : List ℕ) (x : Script) (h : Sound s x) where
 
 -- ---- only an instruction that ends a block has targets
 
+-- whether there is no place
+has_no_place : List Place → Bool
+has_no_place [] = true
+has_no_place (p ∷ ps) = false
+
+-- then the list is empty
+no_place : (ps : List Place) → T (has_no_place ps) → ps ≡ []
+unfolding has_no_place
+no_place [] t = refl
+no_place (p ∷ ps) t = absurd t
+
 -- the computed test: each kind ends a block or names no target
 unfoldable still : ℕ → Bool
-still k = ends_block k || has_no_place (by_source k).targets
+still k = ends_block k || eqb (length (by_source k).targets) 0
 
 all-still : (k : ℕ) → 1 ≤ k → k ≤ 41 → T (still k)
-unfolding still by_source variants jump_targets ends_block
+unfolding still by_source variants jump_targets ends_block has_no_place
 all-still = at_kind still tt
 
 targets-still : (k : ℕ) (v : List ℕ) → 1 ≤ k → k ≤ 41 → ends_block k ≡ false → targets_of k v ≡ []
 unfolding still targets_of gathered
 targets-still k v l h e =
-    ap (λ (ps : List Place). gathered ps v) (no_place (by_source k).targets (rw e at (all-still k l h)))
+    ap (λ (ps : List Place). gathered ps v) (nil_from_length (by_source k).targets (eqb→eq (length (by_source k).targets) 0 (rw e at (all-still k l h))))
 
 -- an instruction of a sheet that passed has targets only if it ends a block
 pub quiet : (s : List ℕ) (x : Script) → Sound s x → (k : ℕ) → (flow.instruction_at (flow_code (parts_of s)) k).ends ≡ false
     → (flow.instruction_at (flow_code (parts_of s)) k).targets ≡ []
 quiet s x h = everywhere s x h (λ v. v.ends ≡ false → v.targets ≡ [])
-    (λ k l e. let p = (h.readable k l).known in targets-still (code_instruction s x k).pattern.kind (values_of s (code_instruction s x k)) p.low p.high e)
+    (λ k l e. let p = h.stands k l in targets-still (code_kind s x k) (code_values s x k) p.low p.high e)
     (λ e. absurd (true≢false e))

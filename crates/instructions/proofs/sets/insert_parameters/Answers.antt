@@ -1,31 +1,35 @@
--- `instructions::sets::insert_parameters` meets its contract. Assumes nothing.
-use Rattle.std.proofs.Common.{List, subst, ◌∙◌, ℕ, ◌*◌, replicate, rules}
-use lib.ListN.{length-replicate}
-use Rattle.bitset.specs.Below.{AllBelow}
-use Rattle.instructions.specs.Sets.{inserted_all, parameter_row}
+use Rattle.std.proofs.Common.{◌≤◌, ◌≡◌, ◌∙◌, sym, ap, ap₂, List, ℕ, map, length, replicate, arith, rules}
+use lib.ListN.{drop_of_length-le}
+use Rattle.std.proofs.lemmas.List.{length-map}
+use Rattle.operands.specs.Bytes.{number_in}
 use Rattle.sheet.specs.Decode.{parts_of}
-use Rattle.bitset.proofs.Below.{below_up}
-use Rattle.instructions.proofs.SetSteps.{length-all, cleared}
+use Rattle.instructions.specs.Sets.{inserted_all, parameter_row}
+use Rattle.instructions.proofs.SetSteps.{item-below, listed_more}
+use Rattle.instructions.proofs.PlacedLaws.{made_parameters}
 use Rattle.instructions.proofs.sets.insert_parameters.Goals as goal
 
-pub insert_listed-requires : goal.insert_listed-requires
-insert_listed-requires c =
+pub insert-requires : goal.insert-requires
+insert-requires c =
     let a = c.args in
-    let p = c.requires.0 in
-    let below = below_up a.script.slots (64 * a.w) (parts_of a.s.now).params
-    c.requires.1 p.params_below in
-    (p.params_inside, subst (AllBelow (64 * a.w)) p.params_are below, search rules)
+    let e = ap (map number_in) c.as_chunks.ensures.front ∙ made_parameters a.s.now a.script c.requires.0 in
+    let b = item-below c.as_chunks.result.0.now c.loop-field.field-index c.loop-field-test.true a.script.slots (parts_of a.s.now).params e
+    c.requires.0.params_below in
+    omega (arith, c.number.ensures, c.requires.1, c.fill.ensures.len)
+
+pub loop-field-preserved : goal.loop-field-preserved
+loop-field-preserved c =
+    let l = c.loop-field in
+    let items = c.as_chunks.result.0.now in
+    ap (inserted_all _) c.insert.ensures
+    ∙ listed_more items l.field-index c.loop-field-test.true c.number.result l.row (inserted_all (map number_in items) c.fill.new.self) c.number.ensures l.invariant
 
 pub returns : goal.returns
-unfolding parameter_row
+unfolding inserted_all parameter_row
 returns c =
     let a = c.args in
-    let l = c.args.words.now in
-    let p = c.requires.0 in
-    let ps = (parts_of a.s.now).params in
-    let f : List ℕ → List ℕ = inserted_all ps in
-    let e = c.insert_listed.ensures in
-    let q = rw (← p.params_are) at e in
-    q ∙ cleared l a.base a.w f c.fill.new.words
-    c.requires.2
-    (length-all ps (replicate a.w 0) ∙ length-replicate a.w 0) c.fill.ensures
+    let l = c.loop-field in
+    let items = c.as_chunks.result.0.now in
+    let e = ap (map number_in) c.as_chunks.ensures.front ∙ made_parameters a.s.now a.script c.requires.0 in
+    let h : length (map number_in items) ≤ l.field-index = omega (arith, length-map items number_in) in
+    let z : c.fill.new.self ≡ replicate (length a.row.now) 0 = c.fill.ensures.after (search rules) in
+    sym (ap (λ (ns : List ℕ). inserted_all ns l.row) (drop_of_length-le (map number_in items) h)) ∙ l.invariant ∙ ap₂ inserted_all e z

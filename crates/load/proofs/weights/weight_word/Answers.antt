@@ -1,42 +1,25 @@
--- `load::weights::weight_word` meets its contract: a record at a time. Assumes nothing.
-use Rattle.std.proofs.Common.{ap, ap₂, ℕ, ◌+◌, arith}
-use Rattle.load.specs.Counting.{weights_at}
-use Rattle.load.proofs.CountLaws.{weighed_none, weighed_stands, weighed_more, weighed_all, weighed_next}
+use Rattle.std.proofs.Common.{◌≡◌, ◌+◌, get_or, arith}
+use Rattle.format.specs.Heads.{end_at}
+use Rattle.load.proofs.WordCounts.{bit-made}
+use Rattle.load.proofs.CountLaws.{weighed_none, weighed_lies, weighed_more, weighed_all}
 use Rattle.load.proofs.weights.weight_word.Goals as goal
 
 pub loop-k-init : goal.loop-k-init
-loop-k-init c =
-    weighed_none (omega arith)
+loop-k-init c = weighed_none
 
-pub overflow_add-at : goal.overflow_add-at
-overflow_add-at c =
-    let p = weighed_stands c.loop-k.invariant c.requires.0 c.loop-k-test.true in omega (arith, p.0, p.1)
-
-pub bounds-s-at : goal.bounds-s-at
-bounds-s-at c =
-    let p = weighed_stands c.loop-k.invariant c.requires.0 c.loop-k-test.true in omega (arith, p.0, p.1)
-
-pub weight_bit-bits-requires : goal.weight_bit-bits-requires
-weight_bit-bits-requires c =
-    omega (arith, c.loop-k-test.true, c.requires.1)
-
-pub overflow_add-at-in-loop-k : goal.overflow_add-at-in-loop-k
-overflow_add-at-in-loop-k c =
-    let p = weighed_stands c.loop-k.invariant c.requires.0 c.loop-k-test.true in omega (arith, p.0, p.1)
+pub bounds-s-next : goal.bounds-s-next
+bounds-s-next c =
+    let w = weighed_lies c.loop-k.invariant c.requires.0 c.loop-k-test.true in omega (arith, w.some_body, w.within)
 
 pub u16_at-requires : goal.u16_at-requires
 u16_at-requires c =
-    let p = weighed_stands c.loop-k.invariant c.requires.0 c.loop-k-test.true in omega (arith, p.0, p.1)
-
-pub overflow_add-at-in-loop-k-2 : goal.overflow_add-at-in-loop-k-2
-overflow_add-at-in-loop-k-2 c =
-    let p = weighed_stands c.loop-k.invariant c.requires.0 c.loop-k-test.true in omega (arith, p.0, p.1, c.u16_at.ensures.0)
+    let w = weighed_lies c.loop-k.invariant c.requires.0 c.loop-k-test.true in omega (arith, w.some_body, w.within)
 
 pub loop-k-preserved : goal.loop-k-preserved
 loop-k-preserved c =
-    weighed_more c.loop-k.invariant c.loop-k-test.true (ap (λ (n : ℕ). c.loop-k.at + 2 + n) c.u16_at.ensures.0) c.weight_bit-bits.ensures
+    let l = c.loop-k in
+    let next : l.next + (2 + c.u16_at.result) ≡ end_at c.args.s.now l.next = omega (arith, c.u16_at.ensures) in
+    weighed_more l.invariant next (bit-made (get_or c.args.s.now (l.next + 4) 0) c.from.result l.k (omega arith) c.from.ensures)
 
 pub returns : goal.returns
-unfolding weights_at
-returns c =
-    ap₂ (λ (b n : ℕ). record { bits = b; next = n }) (weighed_all c.loop-k.invariant c.loop-k-test.false) (weighed_next c.loop-k.invariant c.loop-k-test.false)
+returns c = weighed_all c.loop-k.invariant (omega arith)
