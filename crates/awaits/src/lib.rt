@@ -4,7 +4,7 @@
 pub mod slots;
 
 ghost use Rattle.std.specs.Prelude.{◌≡◌, true, ◌+◌, ◌≤◌, ◌<◌, length};
-ghost use Rattle.operands.specs.Kinds.{is_await};
+ghost use Rattle.operands.specs.Kinds.{kind_number, is_await};
 ghost use Rattle.memory.specs.Scratch.{scratch, Room};
 ghost use Rattle.memory.specs.Sets.{sets, SetsRoom};
 ghost use Rattle.dataflow.specs.Code.{await_at};
@@ -17,7 +17,7 @@ use budget::{Charged, FlowBudget, Limits};
 use format::refusal::Refusal;
 use instructions::placed;
 use memory::layout;
-use operands::kinds;
+use operands::kind::Kind;
 use sheet::script::Script;
 use sizes::Layout;
 
@@ -47,9 +47,7 @@ pub fn check_awaits(
 {
     let mut left = budget;
     let mut next = place;
-    let mut pc = end;
-    while start < pc {
-        pc -= 1;
+    for pc in (start..end).rev() {
         let r = check_instruction(sheet, s, t, script, y, pc, next, limits, left);
         let Points::Passed(n, paid) = r else {
             return r;
@@ -74,9 +72,7 @@ pub fn charge_back(
     ensures { ChargedBack limits budget start end place (scratch y s.now) result }
 {
     let mut left = budget;
-    let mut pc = end;
-    while start < pc {
-        pc -= 1;
+    for pc in (start..end).rev() {
         let cost = memory::scratch::get(s, y, layout::COST, pc);
         let c = left.charge(cost, limits);
         let Charged::Ok(b) = c else {
@@ -110,20 +106,10 @@ fn check_instruction(
         return Points::Refused(Refusal::WorkLimit, c.budget());
     };
     let at = memory::scratch::get(s, y, layout::OFFSET, pc) as usize;
-    let p = placed::instruction_at(sheet, at);
-    slots::remove_output(sheet, s, y, live, p.instruction);
-    slots::insert_inputs(sheet, s, y, live, p.instruction, cost as usize - 1);
-    check_point(
-        s,
-        t,
-        script,
-        y,
-        p.instruction.pattern.kind,
-        pc,
-        place,
-        limits,
-        b,
-    )
+    let instruction = placed::instruction_at(sheet, at).instruction();
+    slots::remove_output(s, y, live, instruction);
+    slots::insert_inputs(s, y, live, instruction.inputs());
+    check_point(s, t, script, y, instruction.kind, pc, place, limits, b)
 }
 
 // An instruction that is no await passes.
@@ -132,16 +118,16 @@ pub fn check_point(
     t: &mut [u64],
     script: Script,
     y: Layout,
-    kind: usize,
+    kind: Kind,
     pc: usize,
     place: usize,
     limits: Limits,
     budget: FlowBudget,
 ) -> Points
-    requires { Room y (length s.now) × SetsRoom y (length t.old) × (is_await kind ≡ true → 0 < place) × (place ≤ y.awaits) × (y.words ≤ 1024) }
-    ensures { AwaitChecked (is_await kind) y limits script.slots budget pc place (scratch y s.now) (sets y t.old) (sets y t.new) result }
+    requires { Room y (length s.now) × SetsRoom y (length t.old) × (is_await (kind_number kind) ≡ true → 0 < place) × (place ≤ y.awaits) × (y.words ≤ 1024) }
+    ensures { AwaitChecked (is_await (kind_number kind)) y limits script.slots budget pc place (scratch y s.now) (sets y t.old) (sets y t.new) result }
 {
-    if kinds::is_await(kind) {
+    if kind.is_await() {
         return check_await(s, t, script.slots, y, pc, place - 1, limits, budget);
     }
     Points::Passed(place, budget)

@@ -1,7 +1,7 @@
 -- One block: what its words and rows are when its instructions have been gone through, and that those of earlier blocks stay. Assumes nothing.
 use mathlib.Core.Logic.{◌≢◌}
 use mathlib.Core.Path.{◌≡◌, refl, sym, ap, subst, ◌∙◌}
-use mathlib.Core.Bool.{Bool, false}
+use mathlib.Core.Bool.{Bool, true, false}
 use mathlib.Core.List.{List, [], ◌∷◌, map, Memᴰ}
 use Prim.Native.Nat.{ℕ, suc, ◌+◌, ◌-◌, ◌≤◌, ◌<◌}
 use native.Mathlib.Decide.{dec_lt}
@@ -31,13 +31,14 @@ use Rattle.budget.specs.declared.Limits.{Limits}
 use Rattle.budget.specs.declared.Charged.{Charged}
 use Rattle.budget.specs.declared.Charged.TheVariants.{Ok}
 use Rattle.budget.specs.Budget.{charged}
-use Rattle.operands.specs.Kinds.{ends_block}
-use Rattle.operands.specs.Operands.{targets_of}
-use Rattle.operands.specs.Instructions.{values_of}
+use Rattle.operands.specs.Kinds.{kind_number, ends_block}
+use Rattle.operands.specs.Patterns.{fits}
+use Rattle.operands.specs.Instructions.{targets_in}
+use Rattle.operands.specs.declared.instruction.Instruction as operands
 use Rattle.sheet.specs.declared.script.Script.{Script}
 use Rattle.sheet.specs.Decode.{parts_of}
 use Rattle.instructions.specs.declared.placed.Placed.{Placed}
-use Rattle.instructions.specs.Placed.{Stands, placed_at}
+use Rattle.instructions.specs.Placed.{Stands, IsPlaced}
 use Rattle.bitset.specs.Below.{AllBelow}
 use Rattle.script.specs.Script.{flow_code, parameter_in}
 use Rattle.script.proofs.ScriptLaws.{code_length, checked}
@@ -46,7 +47,7 @@ use Rattle.blocks.specs.Words.{end_of, spanned, next_of, put_edges}
 use Rattle.blocks.specs.Rows.{transfer_all, rows_at, Transferred}
 use Rattle.blocks.specs.Blocks.{Ready, BlockWords, BlockRows, block_cells, BuiltOne}
 use Rattle.blocks.proofs.ReadLaws.{Read, inputs_everywhere, outputs_everywhere, targets_everywhere}
-use Rattle.blocks.proofs.TransferLaws.{offset_is, noted_stands, noted_read}
+use Rattle.blocks.proofs.TransferLaws.{offset_is, noted_stands, noted_fits, noted_read}
 use Rattle.blocks.proofs.CodeLaws.{starts_up, Spans, spans_at, few_successors, behind_inside, next_leads}
 use Rattle.blocks.proofs.EdgeLaws.{edge_cells, Edged, edged}
 use Rattle.blocks.proofs.KeptLaws.{ready_kept, SameWords, block-kept}
@@ -166,27 +167,31 @@ module _ {s : List ℕ} {x : Script} {y : Layout} {m : Mem} (ok : Ready s x y m)
     last_stands ea = noted_stands ok m₂ offsets_kept (end - 1) last_inside ea
 
     -- the last of them, as it is read
-    module _ {at : ℕ} (ea : at ≡ word m₂ offset_cell (end - 1)) {i : Placed} (ei : i ≡ placed_at s at) where
-      pub last_read : Read s y.words (end - 1) i
-      last_read = noted_read ok m₂ offsets_kept (end - 1) last_inside ea ei
+    module _ {at : ℕ} (ea : at ≡ word m₂ offset_cell (end - 1)) {z : Placed} (ei : IsPlaced s at z) where
+      pub last_fits : fits (kind_number z.kind) (length z.fields.now) ≡ true
+      last_fits = noted_fits ok m₂ offsets_kept (end - 1) last_inside ea ei
 
-      pub last_targets : AllBelow y.instructions (targets_of i.instruction.pattern.kind (values_of s i.instruction))
-      last_targets =
-          subst (λ (n : ℕ). AllBelow n (targets_of i.instruction.pattern.kind (values_of s i.instruction))) (sym ok.fits.instructions)
-          (targets_at ok.sound (end - 1) ei (offset_is ok m₂ offsets_kept (end - 1) last_inside ea)
-          (omega (arith, last_inside, ok.fits.instructions)))
+      module _ (v : operands.Instruction) (ek : v.kind ≡ z.kind) (ef : v.fields.now ≡ z.fields.now) where
+        pub last_read : Read s y.words (end - 1) v
+        last_read = noted_read ok m₂ offsets_kept (end - 1) last_inside ea ei v ek ef
 
-      pub last_behind : ends_block i.instruction.pattern.kind ≡ false → end < y.instructions
-      last_behind f =
-          let l = behind_inside code (parameter_in (parts_of s)) x.slots (checked s x ok.sound) b start end some_block spans (last_read.ends_are ∙ f) in
-          omega (arith, l, ok.fits.instructions, code_length s x ok.sound)
+        pub last_targets : AllBelow y.instructions (targets_in v)
+        last_targets =
+            subst (λ (n : ℕ). AllBelow n (targets_in v)) (sym ok.fits.instructions)
+            (targets_at ok.sound (end - 1) ei (offset_is ok m₂ offsets_kept (end - 1) last_inside ea) v ek ef
+            (omega (arith, last_inside, ok.fits.instructions)))
 
-      -- where control goes is where the edges are put
-      pub last_next : next_of (ends_block i.instruction.pattern.kind) (targets_of i.instruction.pattern.kind (values_of s i.instruction)) end
-          ≡ successors (flow_code (parts_of s)) (end - 1)
-      last_next =
-          let e : end ≡ suc (end - 1) = omega (arith, spans.some) in
-          rw (last_read.ends_are, last_read.targets_are, ← e) refl
+        pub last_behind : ends_block (kind_number v.kind) ≡ false → end < y.instructions
+        last_behind f =
+            let l = behind_inside code (parameter_in (parts_of s)) x.slots (checked s x ok.sound) b start end some_block spans (last_read.ends_are ∙ f) in
+            omega (arith, l, ok.fits.instructions, code_length s x ok.sound)
+
+        -- where control goes is where the edges are put
+        pub last_next : next_of (ends_block (kind_number v.kind)) (targets_in v) end
+            ≡ successors (flow_code (parts_of s)) (end - 1)
+        last_next =
+            let e : end ≡ suc (end - 1) = omega (arith, spans.some) in
+            rw (last_read.ends_are, last_read.targets_are, ← e) refl
 
     -- ---- the edges put, and the instructions gone through
 

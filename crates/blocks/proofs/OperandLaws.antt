@@ -1,28 +1,38 @@
--- The operands of an instruction that are read one by one: at most two targets, few inputs, and the output that is read. Assumes nothing.
-use mathlib.Core.Path.{◌≡◌, refl, sym, ap, subst, ◌∙◌}
-use mathlib.Core.Bool.{Bool, true, false}
+-- The operands of an instruction: at most two targets, few inputs, and the output that is read. Assumes nothing.
+use mathlib.Core.Path.{◌≡◌, refl, ap, subst}
+use mathlib.Core.Bool.{Bool, true, false, ◌&&◌}
 use mathlib.Core.List.{List, [], ◌∷◌}
 use mathlib.Core.Option.{Option, none, some}
-use Prim.Native.Nat.{ℕ, zero, suc, ◌+◌, ◌≤◌, ◌<◌}
+use Prim.Native.Nat.{ℕ, zero, suc, ◌+◌, ◌*◌, ◌-◌, ◌≤◌, ◌<◌}
 use native.Mathlib.Omega.{arith}
-use lib.Dec.{T}
-use lib.ListN.{length, get_or, length-append}
+use borrow.Author.Tests.{leb-true}
+use lib.Dec.{T, eqb, leb}
+use lib.ListN.{length, get_or, drop, length-append, length-drop}
+use Rattle.std.proofs.Common.{Some, None}
+use Rattle.operands.specs.Choice.{pick}
 use Rattle.operands.specs.Places.{Place, one, optional, rest, absent, gathered}
-use Rattle.operands.specs.Patterns.{S, Sopt, role_at}
-use Rattle.operands.specs.Variants.{variants, jump_targets}
+use Rattle.operands.specs.Variants.{Variant, Unreachable, variants, slot_inputs, jump_targets}
 use Rattle.operands.specs.Operands.{by_source, inputs_of, targets_of}
-use Rattle.operands.specs.ByPattern.{single_place, places_from}
-use Rattle.operands.specs.Instructions.{Readable, values_of, value_of, slot_in}
-use Rattle.operands.specs.declared.slots.Slot.{Slot}
-use Rattle.operands.specs.declared.instruction.Instruction.{Instruction}
-use Rattle.operands.specs.declared.instruction.Value.TheVariants as values
-use Rattle.operands.specs.declared.instruction.SlotOperand.{SlotOperand}
-use Rattle.operands.specs.declared.instruction.SlotOperand.TheVariants as slots
-use Rattle.operands.proofs.Table.{at_kind}
-use Rattle.operands.proofs.InstructionLaws.{view_count}
-use Rattle.operands.proofs.PlaceLaws.{gathered-append, single-gathered, single-few}
+use Rattle.operands.specs.Instructions.{value_of}
 use Rattle.bitset.specs.Below.{AllBelow}
 use Rattle.script.specs.Script.{list_of}
+
+-- ---- a test at each variant
+
+all_of : (Variant → Bool) → List Variant → Bool
+all_of f [] = true
+all_of f (v ∷ l) = f v && all_of f l
+
+-- two tests that pass together
+both : (a b : Bool) → T (a && b) → T a × T b
+both true b t = (tt, t)
+both false b t = absurd t
+
+each : (f : Variant → Bool) (l : List Variant) (d : Variant) (i : ℕ) → T (all_of f l) → T (f d) → T (f (get_or l i d))
+unfolding all_of
+each f [] d i t u = u
+each f (v ∷ l) d zero t u = (both (f v) (all_of f l) t).0
+each f (v ∷ l) d (suc i) t u = each f l d i (both (f v) (all_of f l) t).1 u
 
 -- ---- at most two targets
 
@@ -53,52 +63,76 @@ two-gathered (one i ∷ rest j ∷ ps) v t = absurd t
 two-gathered (optional i ∷ ps) v t = absurd t
 two-gathered (rest i ∷ ps) v t = absurd t
 
--- the computed test, at each kind
-unfoldable few_targets : ℕ → Bool
-few_targets k = two (by_source k).targets
+-- the computed test, at each variant
+few_targets : Variant → Bool
+few_targets v = two (jump_targets v)
 
-all-few : (k : ℕ) → 1 ≤ k → k ≤ 41 → T (few_targets k)
-unfolding few_targets by_source variants jump_targets two one_place
-all-few = at_kind few_targets tt
+all-few : (k : ℕ) → T (two (by_source k).targets)
+unfolding by_source few_targets variants jump_targets two one_place all_of
+all-few k = each few_targets variants Unreachable (k - 1) tt tt
 
 -- an instruction names at most two targets
-pub targets-few : (k : ℕ) (v : List ℕ) → 1 ≤ k → k ≤ 41 → length (targets_of k v) ≤ 2
-unfolding few_targets targets_of
-targets-few k v l h = two-gathered (by_source k).targets v (all-few k l h)
+pub targets-few : (k : ℕ) (v : List ℕ) → length (targets_of k v) ≤ 2
+unfolding targets_of
+targets-few k v = two-gathered (by_source k).targets v (all-few k)
 
 -- ---- few inputs
 
--- n fields give at most n operands
-places-few : (a b k j n : ℕ) (v : List ℕ) → length (gathered (places_from a b k j n) v) ≤ n
-unfolding places_from gathered
-places-few a b k j zero v = omega arith
-places-few a b k j (suc n) v =
-    let e = ap length (gathered-append (single_place a b (role_at k j) j) (places_from a b k (j + 1) n) v)
-    ∙ length-append (gathered (single_place a b (role_at k j) j) v) (gathered (places_from a b k (j + 1) n) v) in
-    let f = ap length (single-gathered a b (role_at k j) j v) in
-    omega (arith, e, f, single-few a b (role_at k j) (get_or v j absent), places-few a b k (j + 1) n v)
+-- how many places are of all fields from one on
+rests : List Place → ℕ
+rests [] = 0
+rests (one i ∷ ps) = rests ps
+rests (optional i ∷ ps) = rests ps
+rests (rest i ∷ ps) = suc (rests ps)
+
+gathered-few : (ps : List Place) (v : List ℕ) → length (gathered ps v) ≤ rests ps * length v + length ps
+unfolding gathered rests
+gathered-few [] v = omega arith
+gathered-few (one i ∷ ps) v = omega (arith, gathered-few ps v)
+gathered-few (optional i ∷ ps) v = go (eqb (get_or v i absent) absent) (gathered-few ps v)
+  where
+    go : (t : Bool) → length (gathered ps v) ≤ rests ps * length v + length ps
+        → length (pick t (gathered ps v) (get_or v i absent ∷ gathered ps v)) ≤ rests ps * length v + suc (length ps)
+    go true h = omega arith
+    go false h = omega arith
+gathered-few (rest i ∷ ps) v = omega (arith, length-append (drop i v) (gathered ps v), length-drop i v, gathered-few ps v)
+
+-- the computed test, at each variant
+few_inputs : Variant → Bool
+few_inputs v = leb (rests (slot_inputs v)) 1 && leb (length (slot_inputs v)) 4
+
+all-sparse : (k : ℕ) → T (leb (rests (by_source k).inputs) 1 && leb (length (by_source k).inputs) 4)
+unfolding by_source few_inputs variants slot_inputs rests all_of
+all-sparse k = each few_inputs variants Unreachable (k - 1) tt tt
 
 -- as many inputs as fields and four more, at most
-pub inputs-few : (s : List ℕ) (i : Instruction) → Readable s i → length (inputs_of i.pattern.kind (values_of s i)) ≤ i.fields + 4
-inputs-few s i r = omega (arith, view_count s i r, places-few S Sopt i.pattern.kind 0 4 (values_of s i))
+pub inputs-few : (k : ℕ) (v : List ℕ) → length (inputs_of k v) ≤ length v + 4
+unfolding inputs_of
+inputs-few k v = go (leb (rests ps) 1) (leb (length ps) 4) refl refl (all-sparse k)
+  where
+    ps : List Place
+    ps = (by_source k).inputs
+
+    go : (a b : Bool) → leb (rests ps) 1 ≡ a → leb (length ps) 4 ≡ b → T (a && b) → length (gathered ps v) ≤ length v + 4
+    go true true p q t = many (rests ps) refl (leb-true (rests ps) 1 p) (leb-true (length ps) 4 q)
+      where
+        many : (n : ℕ) → rests ps ≡ n → n ≤ 1 → length ps ≤ 4 → length (gathered ps v) ≤ length v + 4
+        many zero e h l = omega (arith, gathered-few ps v, ap (λ (x : ℕ). x * length v) e)
+        many (suc zero) e h l = omega (arith, gathered-few ps v, ap (λ (x : ℕ). x * length v) e)
+        many (suc (suc n)) e h l = absurd (omega arith)
+    go true false p q t = absurd t
+    go false b p q t = absurd t
 
 -- ---- the output
 
 -- the output, as it is read
-module _ (o : SlotOperand) (v : Option ℕ) (e : slot_in o ≡ value_of v) where
-  pub output_there : (t : Slot) → o ≡ slots.Is t → list_of v ≡ t.0 ∷ []
-  output_there t q = go v (ap slot_in (sym q) ∙ e)
-    where
-      go : (w : Option ℕ) → values.Is t.0 ≡ value_of w → list_of w ≡ t.0 ∷ []
-      go (some x) f = let g : x ≡ t.0 = cc in ap (λ (y : ℕ). y ∷ []) g
-      go none f = let z : ◌≡◌ {A = ℕ} 0 1 = cc in absurd (omega arith)
+pub output_there : (x : ℕ) (v : Option ℕ) → Some x ≡ value_of v → list_of v ≡ x ∷ []
+output_there x (some y) e = let q : x ≡ y = cc in rw q
+output_there x none e = let z : ◌≡◌ {A = ℕ} 0 1 = cc in absurd (omega arith)
 
-  pub output_missing : o ≡ slots.Absent → list_of v ≡ []
-  output_missing q = go v (ap slot_in (sym q) ∙ e)
-    where
-      go : (w : Option ℕ) → values.Absent ≡ value_of w → list_of w ≡ []
-      go (some x) f = let z : ◌≡◌ {A = ℕ} 0 1 = cc in absurd (omega arith)
-      go none f = refl
+pub output_missing : (v : Option ℕ) → None ≡ value_of v → list_of v ≡ []
+output_missing (some y) e = let z : ◌≡◌ {A = ℕ} 0 1 = cc in absurd (omega arith)
+output_missing none e = refl
 
 -- the only number of a list of numbers below n
 pub below-first : (n x : ℕ) (l : List ℕ) → l ≡ x ∷ [] → AllBelow n l → x < n

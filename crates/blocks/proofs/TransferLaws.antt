@@ -1,5 +1,6 @@
 -- The instructions of a block one by one: their charges, the costs noted, and the two rows. Assumes nothing.
 use mathlib.Core.Path.{◌≡◌, refl, sym, ap, ap₂, ◌∙◌}
+use mathlib.Core.Bool.{true}
 use mathlib.Core.List.{List, [], ◌∷◌, ◌++◌, map, map-append}
 use Prim.Native.Nat.{ℕ, suc, ◌+◌, ◌-◌, ◌≤◌, ◌<◌}
 use native.Mathlib.Decide.{ℕ_discrete}
@@ -25,12 +26,15 @@ use Rattle.budget.specs.Budget.{charged}
 use Rattle.budget.proofs.BudgetLaws.{charged-none, met_then, over_then}
 use Rattle.sheet.specs.declared.script.Script.{Script}
 use Rattle.instructions.specs.declared.placed.Placed.{Placed}
-use Rattle.instructions.specs.Placed.{Stands, placed_at}
+use Rattle.instructions.specs.Placed.{Stands, IsPlaced}
+use Rattle.operands.specs.Kinds.{kind_number}
+use Rattle.operands.specs.Patterns.{fits}
+use Rattle.operands.specs.declared.instruction.Instruction as operands
 use Rattle.instructions.specs.Sets.{inserted_all}
 use Rattle.instructions.specs.Sound.{code_offset}
 use Rattle.blocks.specs.Rows.{used_in, Transfer, transfer_one, transfer_all, rows_at, Transferred}
 use Rattle.blocks.specs.Blocks.{Ready}
-use Rattle.blocks.proofs.ReadLaws.{Read, stands_at, read_at}
+use Rattle.blocks.proofs.ReadLaws.{Read, stands_at, fits_at, read_at}
 
 -- ---- lists
 
@@ -198,8 +202,12 @@ module _ {s : List ℕ} {x : Script} {y : Layout} {m : Mem} (ok : Ready s x y m)
   pub noted_stands : Stands s at
   noted_stands = stands_at ok.sound offset_is there
 
-  pub noted_read : {p : Placed} → p ≡ placed_at s at → Read s y.words i p
-  noted_read f = read_at ok.sound offset_is there ok.fits.slots f
+  module _ {p : Placed} (f : IsPlaced s at p) where
+    pub noted_fits : fits (kind_number p.kind) (length p.fields.now) ≡ true
+    noted_fits = fits_at ok.sound offset_is there f
+
+    pub noted_read : (v : operands.Instruction) → v.kind ≡ p.kind → v.fields.now ≡ p.fields.now → Read s y.words i v
+    noted_read = read_at ok.sound offset_is there f ok.fits.slots
 
 -- the offsets stay while the instructions of a block are gone through
 pub offsets-stay : {code : List Instruction} {l : Limits} {budget left : FlowBudget} {b start pc : ℕ} {m m' : Mem}

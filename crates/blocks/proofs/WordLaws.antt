@@ -1,11 +1,10 @@
 -- The words of one block as `span`, `count_edges` and `link_targets` put them. Assumes nothing.
 use mathlib.Core.Path.{◌≡◌, refl, ap, ap₂, ◌∙◌}
 use mathlib.Core.Bool.{Bool, true, false}
-use mathlib.Core.List.{List}
-use Prim.Native.Nat.{ℕ, suc, ◌+◌, ◌≤◌, ◌<◌}
+use mathlib.Core.List.{List, [], ◌∷◌}
+use Prim.Native.Nat.{ℕ, suc, ◌+◌}
 use native.Mathlib.Numerals.{add-one}
-use lib.ListN.{length, get_or, drop, drop_of_length-le}
-use lib.Seq.{drop-cons}
+use lib.ListN.{length}
 use Rattle.memory.specs.Cells.{Mem, word, store, store_cell}
 use Rattle.memory.specs.Names.{block_of_cell, leader_cell, start_cell, end_cell, successor_count_cell}
 use Rattle.memory.specs.Edges.{store_edge}
@@ -32,15 +31,15 @@ unfolding counted_edges
 counted-from b n m m₁ m₂ m₃ e f g = g ∙ ap (λ (w : Mem). store_edge w b 1 0) (f ∙ ap (λ (w : Mem). store_edge w b 0 0) e)
 
 -- the edges one by one
-pub links-more : (b : ℕ) (ts : List ℕ) (m m₁ : Mem) (k : ℕ) → k < length ts → m₁ ≡ store_edge m b k (word m block_of_cell (get_or ts k 0))
-    → link_edges b (k + 1) (drop (k + 1) ts) m₁ ≡ link_edges b k (drop k ts) m
+pub links-more : (b k t : ℕ) (l ts : List ℕ) (m m₁ : Mem) → l ≡ t ∷ ts → m₁ ≡ store_edge m b k (word m block_of_cell t)
+    → link_edges b (k + 1) ts m₁ ≡ link_edges b k l m
 unfolding link_edges
-links-more b ts m m₁ k h e = rw (add-one k, drop-cons ts k 0 h) (ap (link_edges b (suc k) (drop (suc k) ts)) e)
+links-more b k t l ts m m₁ h e = rw (add-one k, h) (ap (link_edges b (suc k) ts) e)
 
 -- after the last
-pub links-all : (b : ℕ) (ts : List ℕ) (m : Mem) (k : ℕ) → length ts ≤ k → link_edges b k (drop k ts) m ≡ m
+pub links-all : (b k : ℕ) (l : List ℕ) (m : Mem) → l ≡ [] → link_edges b k l m ≡ m
 unfolding link_edges
-links-all b ts m k h = rw (drop_of_length-le ts h) refl
+links-all b k l m h = rw h refl
 
 -- ---- the edges of a block, by whether its last instruction ends a block
 

@@ -30,15 +30,13 @@ pub fn blocks(
     ensures { Built (flow_code (parts_of sheet.now)) y limits budget (scratch y s.old) (scratch y s.new) (sets y t.old) (sets y t.new) result }
 {
     let mut left = budget;
-    let mut index = 0;
-    while index < y.blocks {
+    for index in 0..y.blocks {
         fresh(t, y, index);
         let c = block(sheet, s, script, y, index, limits, left);
         let Charged::Ok(b) = c else {
             return c;
         };
         left = b;
-        index += 1;
     }
     Charged::Ok(left)
 }
@@ -61,8 +59,8 @@ fn block(
     let start = memory::scratch::get(s, y, layout::START, index) as usize;
     let end = memory::scratch::get(s, y, layout::END, index) as usize;
     let at = memory::scratch::get(s, y, layout::OFFSET, end - 1) as usize;
-    let p = placed::instruction_at(sheet, at);
-    successors::successors(sheet, s, y, index, p.instruction, end);
+    let last = placed::instruction_at(sheet, at).instruction();
+    successors::successors(s, y, index, last, end);
     transfer::transfer(sheet, s, script, y, index, start, end, limits, budget)
 }
 
@@ -80,6 +78,6 @@ fn fresh(t: &mut [u64], y: Layout, index: usize)
     requires { SetsRoom y (length t.old) × (index < y.blocks) }
     ensures { sets y t.new ≡ store_cell (store_cell (sets y t.old) (initialized_row index) (replicate y.words ones)) (live_row index) (replicate y.words 0) }
 {
-    rows::fill_sets(t, y, layout::initialized(y, index), 18446744073709551615);
+    rows::fill_sets(t, y, layout::initialized(y, index), u64::MAX);
     rows::fill_sets(t, y, layout::live(y, index), 0);
 }

@@ -1,8 +1,7 @@
 // The edges of a block: to the blocks of its last instruction's targets, or to the block behind it.
-ghost use Rattle.std.specs.Prelude.{◌≡◌, false, ◌<◌, length, get_or};
-ghost use Rattle.operands.specs.Kinds.{ends_block};
-ghost use Rattle.operands.specs.Operands.{targets_of};
-ghost use Rattle.operands.specs.Instructions.{Readable, values_of};
+ghost use Rattle.std.specs.Prelude.{◌≡◌, false, ◌<◌, length};
+ghost use Rattle.operands.specs.Kinds.{kind_number, ends_block};
+ghost use Rattle.operands.specs.Instructions.{targets_in};
 ghost use Rattle.memory.specs.Cells.{word};
 ghost use Rattle.memory.specs.Names.{block_of_cell};
 ghost use Rattle.memory.specs.Edges.{store_edge};
@@ -11,24 +10,21 @@ ghost use Rattle.bitset.specs.Below.{AllBelow};
 ghost use Rattle.blocks.specs.Words.{next_of, counted_edges, link_edges, put_edges};
 
 use memory::layout;
-use operands::instruction::{Instruction, TargetOperand};
-use operands::{instruction, kinds};
+use operands::instruction::Instruction;
 use sizes::Layout;
 
-// `i` is the block's last instruction, and `end` is what follows it. The block of a target is looked up in the target's own word.
-pub fn successors(sheet: &[u8], s: &mut [u64], y: Layout, block: usize, i: Instruction, end: usize)
-    requires { (Readable sheet.now i) × Room y (length s.old) × (block < y.blocks) × (AllBelow y.instructions (targets_of i.pattern.kind (values_of sheet.now i))) × (ends_block i.pattern.kind ≡ false → end < y.instructions) }
-    ensures { scratch y s.new ≡ put_edges block (next_of (ends_block i.pattern.kind) (targets_of i.pattern.kind (values_of sheet.now i)) end) (scratch y s.old) }
+// `instruction` is the block's last one, and `end` is what follows it. The block of a target is looked up in the target's own word.
+pub fn successors(s: &mut [u64], y: Layout, block: usize, instruction: Instruction<'_>, end: usize)
+    requires { Room y (length s.old) × (block < y.blocks) × (AllBelow y.instructions (targets_in instruction)) × (ends_block (kind_number instruction.kind) ≡ false → end < y.instructions) }
+    ensures { scratch y s.new ≡ put_edges block (next_of (ends_block (kind_number instruction.entry.kind)) (targets_in instruction.entry) end) (scratch y s.old) }
 {
-    let p = i.pattern;
-    if kinds::ends_block(p.kind) {
-        let n = instruction::target_count(sheet, i);
-        count_edges(s, y, block, n as u64);
-        link_targets(sheet, s, y, block, i, n);
-        return;
+    if instruction.kind.ends_block() {
+        count_edges(s, y, block, instruction.target_count() as u64);
+        link_targets(s, y, block, instruction);
+    } else {
+        count_edges(s, y, block, 1);
+        link(s, y, block, 0, end);
     }
-    count_edges(s, y, block, 1);
-    link(s, y, block, 0, end);
 }
 
 // So many edges, and none of them leads anywhere yet.
@@ -51,23 +47,11 @@ fn link(s: &mut [u64], y: Layout, block: usize, k: usize, to: usize)
 }
 
 // An edge for each target, at most two.
-fn link_targets(sheet: &[u8], s: &mut [u64], y: Layout, block: usize, i: Instruction, n: usize)
-    requires { (Readable sheet.now i) × Room y (length s.old) × (block < y.blocks) × (AllBelow y.instructions (targets_of i.pattern.kind (values_of sheet.now i))) × (n ≡ length (targets_of i.pattern.kind (values_of sheet.now i))) }
-    ensures { scratch y s.new ≡ link_edges block 0 (targets_of i.pattern.kind (values_of sheet.now i)) (scratch y s.old) }
+fn link_targets(s: &mut [u64], y: Layout, block: usize, instruction: Instruction<'_>)
+    requires { Room y (length s.old) × (block < y.blocks) × AllBelow y.instructions (targets_in instruction) }
+    ensures { scratch y s.new ≡ link_edges block 0 (targets_in instruction.entry) (scratch y s.old) }
 {
-    let mut k = 0;
-    while k < n {
-        link_target(sheet, s, y, block, i, k);
-        k += 1;
+    for (k, target) in instruction.targets().enumerate() {
+        link(s, y, block, k, target.index());
     }
-}
-
-fn link_target(sheet: &[u8], s: &mut [u64], y: Layout, block: usize, i: Instruction, k: usize)
-    requires { (Readable sheet.now i) × Room y (length s.old) × (block < y.blocks) × (AllBelow y.instructions (targets_of i.pattern.kind (values_of sheet.now i))) × (k < length (targets_of i.pattern.kind (values_of sheet.now i))) }
-    ensures { scratch y s.new ≡ store_edge (scratch y s.old) block k (word (scratch y s.old) block_of_cell (get_or (targets_of i.pattern.kind (values_of sheet.now i)) k 0)) }
-{
-    let TargetOperand::Is(t) = instruction::target(sheet, i, k) else {
-        return;
-    };
-    link(s, y, block, k, t.index());
 }

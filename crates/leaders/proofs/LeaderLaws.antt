@@ -1,21 +1,24 @@
 -- The marks are the leaders. Assumes nothing.
-use mathlib.Core.Path.{◌≡◌, refl, sym, ap, subst, ◌∙◌}
+use mathlib.Core.Path.{◌≡◌, refl, sym, ap, ap₂, subst, ◌∙◌}
 use mathlib.Core.Bool.{Bool, true, false, ◌&&◌, ◌||◌, or-false, or-true, false≢true}
-use mathlib.Core.List.{List, [], ◌∷◌, Memᴰ}
+use mathlib.Core.List.{List, [], ◌∷◌, Memᴰ, map}
 use Prim.Native.Nat.{ℕ, zero, suc, ◌+◌, ◌≤◌, ◌<◌}
 use native.Mathlib.Decide.{ℕ_discrete}
 use native.Mathlib.Numerals.{add-one}
 use native.Mathlib.Omega.{arith}
 use lib.Dec.{eqb}
-use lib.ListN.{get_or, replicate, length-replicate, get_or-replicate}
+use lib.ListN.{length, length-map, get_or, replicate, length-replicate, get_or-replicate}
 use borrow.Author.Tests.{eq-eqb, ne_eqb, eqb-true}
 use Rattle.dataflow.specs.Lists.{range, some, elem, flag}
 use Rattle.dataflow.specs.Code.{Instruction, outside, instruction_at, leader}
 use Rattle.dataflow.proofs.Bools.{and_left, and_right, same_truth}
 use Rattle.dataflow.proofs.Lists.{some_at, some_to, mem-range, range-bounds, mem-get_or, mem-place}
-use Rattle.operands.specs.Kinds.{ends_block}
+use Rattle.operands.specs.Bytes.{number_in}
+use Rattle.operands.specs.Kinds.{kind_number, ends_block}
+use Rattle.operands.specs.Patterns.{fits}
 use Rattle.operands.specs.Operands.{targets_of}
-use Rattle.operands.specs.Instructions.{values_of, Readable}
+use Rattle.operands.specs.Instructions.{values_of, targets_in}
+use Rattle.operands.specs.declared.instruction.Instruction as operands
 use Rattle.memory.specs.Cells.{Mem, cell, word, store, store_cell}
 use Rattle.memory.specs.Names.{block_of_cell, offset_cell}
 use Rattle.memory.specs.Scratch.{scratch_widths}
@@ -23,6 +26,7 @@ use Rattle.memory.proofs.CellLaws.{Sized, same_word, sized-store, sized-cell, ce
 use Rattle.memory.proofs.ScratchLaws.{word_put, place_instructions, width_instructions, sized_among}
 use Rattle.sheet.specs.declared.script.Script.{Script}
 use Rattle.sheet.specs.Decode.{parts_of}
+use Rattle.sheet.specs.Decode as sheet
 use Rattle.budget.specs.declared.FlowBudget.{FlowBudget}
 use Rattle.budget.specs.declared.Limits.{Limits}
 use Rattle.budget.specs.declared.Charged.{Charged}
@@ -30,9 +34,9 @@ use Rattle.budget.specs.declared.Charged.TheVariants.{Ok, Over}
 use Rattle.budget.specs.Budget.{charged}
 use Rattle.budget.proofs.BudgetLaws.{ones-crossed}
 use Rattle.instructions.specs.declared.placed.Placed.{Placed}
-use Rattle.instructions.specs.Placed.{placed_at}
+use Rattle.instructions.specs.Placed.{IsPlaced}
 use Rattle.bitset.specs.Below.{AllBelow}
-use Rattle.instructions.specs.Sound.{Sound, code_offset, code_instruction}
+use Rattle.instructions.specs.Sound.{Sound, code_offset, code_kind, code_values}
 use Rattle.script.specs.Script.{flow_code}
 use Rattle.script.proofs.ScriptLaws.{code_at, code_length, quiet}
 use Rattle.leaders.specs.Leaders.{marking, marked_by, leads, led_by, Begun, Led, Leads}
@@ -55,7 +59,7 @@ module _ (s : List ℕ) (x : Script) (h : Sound s x) where
   -- one instruction more
   marking-more : (m m' m₁ m₂ : Mem) (i at : ℕ) → Marking s x m m' i → Sized (scratch_widths (marking x)) m' → i < x.count → at ≡ code_offset s x i
       → m₁ ≡ store m' offset_cell i at
-      → m₂ ≡ marked_by (ends_block (code_instruction s x i).pattern.kind) (targets_of (code_instruction s x i).pattern.kind (values_of s (code_instruction s x i))) x.count i m₁
+      → m₂ ≡ marked_by (ends_block (code_kind s x i)) (targets_of (code_kind s x i) (code_values s x i)) x.count i m₁
       → Marking s x m m₂ (i + 1)
   marking-more m m' m₁ m₂ i at g z l e e₁ e₂ = record {
     offsets = λ k b. same_word k (kept offset_cell (λ p. omega arith)) ∙ offset k b (ℕ_discrete k i);
@@ -70,10 +74,10 @@ module _ (s : List ℕ) (x : Script) (h : Sound s x) where
       code = flow_code (parts_of s)
 
       ends : Bool
-      ends = ends_block (code_instruction s x i).pattern.kind
+      ends = ends_block (code_kind s x i)
 
       ts : List ℕ
-      ts = targets_of (code_instruction s x i).pattern.kind (values_of s (code_instruction s x i))
+      ts = targets_of (code_kind s x i) (code_values s x i)
 
       z₁ : Sized (scratch_widths (marking x)) m₁
       z₁ = subst (λ (w : Mem). Sized (scratch_widths (marking x)) w) (sym e₁) (sized-store (scratch_widths (marking x)) m' offset_cell i at z)
@@ -147,27 +151,32 @@ module _ (s : List ℕ) (x : Script) (h : Sound s x) where
 
 module _ {s : List ℕ} {x : Script} (h : Sound s x) where
   -- the instruction that is read at the i-th offset
-  module _ (i : ℕ) {at : ℕ} {p : Placed} (e : p ≡ placed_at s at) (q : at ≡ code_offset s x i) where
-    pub placed_is : p ≡ placed_at s (code_offset s x i)
-    placed_is = e ∙ ap (placed_at s) q
+  module _ (i : ℕ) {at : ℕ} {p : Placed} (e : IsPlaced s at p) (q : at ≡ code_offset s x i) where
+    there : IsPlaced s (code_offset s x i) p
+    there = subst (λ (n : ℕ). IsPlaced s n p) q e
 
     pub next_at : p.next ≡ code_offset s x (i + 1)
-    next_at = ap (λ (w : Placed). w.next) placed_is ∙ h.next_is i ∙ ap (code_offset s x) (sym (add-one i))
+    next_at = there.next_is ∙ h.next_is i ∙ ap (code_offset s x) (sym (add-one i))
 
-    pub readable_at : i < x.count → Readable s p.instruction
-    readable_at l = subst (λ (w : Placed). Readable s w.instruction) (sym placed_is) (h.readable i l)
+    -- its fields fit its kind
+    pub fitting_at : i < x.count → fits (kind_number p.kind) (length p.fields.now) ≡ true
+    fitting_at l =
+        ap₂ fits there.kind_is (sym (length-map p.fields.now number_in) ∙ ap length there.values_are) ∙ h.readable i l
 
-    pub targets_at : i < x.count → AllBelow x.count (targets_of p.instruction.pattern.kind (values_of s p.instruction))
-    targets_at l =
-        subst (λ (w : Placed). AllBelow x.count (targets_of w.instruction.pattern.kind (values_of s w.instruction))) (sym placed_is)
-        (h.targets_below i l)
+    module _ (v : operands.Instruction) (f : v.kind ≡ p.kind) (g : v.fields.now ≡ p.fields.now) where
+      -- it is that of the sheet
+      pub read_is : ◌≡◌ {A = sheet.Instruction} (record { kind = kind_number v.kind; fields = values_of v }) (record { kind = code_kind s x i; fields = code_values s x i })
+      read_is =
+          ap₂ (λ (k : ℕ) (l : List ℕ). record { kind = k; fields = l }) (ap kind_number f ∙ there.kind_is) (ap (map number_in) g ∙ there.values_are)
 
-    pub marking_placed : {m m' m₁ m₂ : Mem} → Marking s x m m' i → Sized (scratch_widths (marking x)) m' → i < x.count → m₁ ≡ store m' offset_cell i at
-        → m₂ ≡ marked_by (ends_block p.instruction.pattern.kind) (targets_of p.instruction.pattern.kind (values_of s p.instruction)) x.count i m₁
-        → Marking s x m m₂ (i + 1)
-    marking_placed {m} {m'} {m₁} {m₂} g z l e₁ e₂ =
-        marking-more s x h m m' m₁ m₂ i at g z l q e₁
-        (e₂ ∙ ap (λ (w : Placed). marked_by (ends_block w.instruction.pattern.kind) (targets_of w.instruction.pattern.kind (values_of s w.instruction)) x.count i m₁) placed_is)
+      pub targets_at : i < x.count → AllBelow x.count (targets_in v)
+      targets_at l = subst (λ (w : sheet.Instruction). AllBelow x.count (targets_of w.kind w.fields)) (sym read_is) (h.targets_below i l)
+
+      pub marking_placed : {m m' m₁ m₂ : Mem} → Marking s x m m' i → Sized (scratch_widths (marking x)) m' → i < x.count → m₁ ≡ store m' offset_cell i at
+          → m₂ ≡ marked_by (ends_block (kind_number v.kind)) (targets_in v) x.count i m₁ → Marking s x m m₂ (i + 1)
+      marking_placed {m} {m'} {m₁} {m₂} d z l e₁ e₂ =
+          marking-more s x h m m' m₁ m₂ i at d z l q e₁
+          (e₂ ∙ ap (λ (w : sheet.Instruction). marked_by (ends_block w.kind) (targets_of w.kind w.fields) x.count i m₁) read_is)
 
   -- a charge crosses the limit at instruction i
   pub leads_over : {l : Limits} {b left y : FlowBudget} {m m' : Mem} {r : Charged} {i : ℕ} → Marking s x m m' i → i < x.count

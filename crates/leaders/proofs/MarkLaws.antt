@@ -3,13 +3,11 @@ use mathlib.Core.Logic.{◌≢◌}
 use mathlib.Core.Path.{◌≡◌, refl, sym, ap, ◌∙◌}
 use mathlib.Core.Bool.{Bool, true, false, ◌&&◌, ◌||◌, or-false, or_assoc}
 use mathlib.Core.List.{List, [], ◌∷◌, ◌++◌}
-use Prim.Native.Nat.{ℕ, suc, ◌+◌, ◌≤◌, ◌<◌}
+use Prim.Native.Nat.{ℕ, suc, ◌+◌, ◌<◌}
 use native.Mathlib.Decide.{ℕ_discrete, dec_lt}
 use native.Mathlib.Numerals.{add-one}
 use native.Mathlib.Omega.{arith}
 use lib.Dec.{eqb, ltb}
-use lib.ListN.{length, get_or, drop, drop_of_length-le}
-use lib.Seq.{drop-cons}
 use borrow.Author.Tests.{eq-eqb, ne_eqb, lt-ltb, le-ltb}
 use Rattle.dataflow.specs.Lists.{pick, range, some, elem, flag}
 use Rattle.dataflow.specs.Code.{Instruction}
@@ -21,9 +19,6 @@ use Rattle.sizes.specs.declared.Layout.{Layout}
 use Rattle.memory.proofs.CellLaws.{Sized, sized-store, cell-store_other, word-store_other}
 use Rattle.memory.proofs.ScratchLaws.{word_put, place_instructions}
 use Rattle.bitset.specs.Below.{AllBelow}
-use Rattle.operands.specs.Instructions.{nth}
-use Rattle.operands.specs.declared.instruction.Value.TheVariants as values
-use Rattle.operands.proofs.PlaceLaws.{nth-there}
 use Rattle.leaders.specs.Leaders.{mark_all, mark_next, marked_by, leads, led_by}
 
 -- ---- what the marks are after stores
@@ -117,21 +112,11 @@ led-more code i j =
 
 -- ---- the targets one by one
 
-pub targets-more : (ts : List ℕ) (m : Mem) (k : ℕ) → k < length ts
-    → mark_all (drop k ts) m ≡ mark_all (drop (k + 1) ts) (store m block_of_cell (get_or ts k 0) 1)
+-- one target more
+pub targets-more : (t : ℕ) (l ts : List ℕ) (m : Mem) → l ≡ t ∷ ts → mark_all ts (store m block_of_cell t 1) ≡ mark_all l m
 unfolding mark_all
-targets-more ts m k h = rw (add-one k, drop-cons ts k 0 h) refl
+targets-more t l ts m e = rw e refl
 
-pub targets-all : (ts : List ℕ) (m : Mem) (k : ℕ) → length ts ≤ k → mark_all (drop k ts) m ≡ m
+pub targets-all : (l : List ℕ) (m : Mem) → l ≡ [] → mark_all l m ≡ m
 unfolding mark_all
-targets-all ts m k h = rw (drop_of_length-le ts h) refl
-
--- the k-th operand, as it is read
-module _ (l : List ℕ) (k : ℕ) (h : k < length l) where
-  pub operand_there : (x : ℕ) → values.Is x ≡ nth l k → x ≡ get_or l k 0
-  operand_there x e = let f : values.Is x ≡ values.Is (get_or l k 0) = e ∙ nth-there l k 0 h in cc
-
-  pub operand_missing : values.Absent ≡ nth l k → ⊥
-  operand_missing e =
-      let f : values.Absent ≡ values.Is (get_or l k 0) = e ∙ nth-there l k 0 h in
-      let z : ◌≡◌ {A = ℕ} 0 1 = cc in omega arith
+targets-all l m e = rw e refl

@@ -13,12 +13,9 @@ pub fn number(s: &mut [u64], y: Layout) -> usize
     requires { Room y (length s.old) × (marked (cell (scratch y s.old) block_of_cell) 0 ≡ true) }
     ensures { Numbered y.instructions (scratch y s.old) (scratch y s.new) result }
 {
-    let n = y.instructions;
     let mut blocks = 0;
-    let mut i = 0;
-    while i < n {
+    for i in 0..y.instructions {
         blocks = number_one(s, y, i, blocks);
-        i += 1;
     }
     blocks
 }

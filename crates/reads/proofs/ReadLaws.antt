@@ -1,17 +1,18 @@
 -- The reads of a block's instructions one by one: the charge of each, its inputs, and its output put into the running set. Assumes nothing.
 use mathlib.Core.Path.{◌≡◌, refl, sym, ap, ap₂, subst, ◌∙◌}
-use mathlib.Core.Bool.{Bool, true, false, not, ◌&&◌, ◌||◌, or_comm, true≢false}
+use mathlib.Core.Bool.{Bool, true, false, not, ◌&&◌, ◌||◌, or_comm}
 use mathlib.Core.List.{List, [], ◌∷◌}
 use Prim.Native.Nat.{ℕ, suc, ◌+◌, ◌*◌, ◌-◌, ◌≤◌, ◌<◌}
 use native.Mathlib.Omega.{arith}
-use lib.ListN.{length, get_or}
+use mir.Val.{bool_byte}
+use lib.ListN.{length}
 use Rattle.bitset.specs.Sets.{member}
 use Rattle.dataflow.specs.Lists.{pick, range, every, keep, elem}
 use Rattle.dataflow.specs.Analyses.{init_transfer}
 use Rattle.dataflow.specs.Code.{Instruction, instruction_at, program, await_at}
 use Rattle.dataflow.specs.Charges.{cost_at}
-use Rattle.dataflow.proofs.Bools.{not_yes, not-true}
-use Rattle.dataflow.proofs.Lists.{keep-both, every_at, every_to, mem-get_or, mem-place}
+use Rattle.dataflow.proofs.Bools.{not_yes, not-no}
+use Rattle.dataflow.proofs.Lists.{keep-both}
 use Rattle.budget.specs.declared.FlowBudget.{FlowBudget}
 use Rattle.budget.specs.declared.Limits.{Limits}
 use Rattle.budget.specs.declared.Charged.{Charged}
@@ -22,16 +23,17 @@ use Rattle.memory.specs.Cells.{Mem, cell, word, store_cell}
 use Rattle.memory.specs.Names.{cost_cell, offset_cell, state_row, hosts_row}
 use Rattle.sizes.specs.declared.Layout.{Layout}
 use Rattle.memory.proofs.CellLaws.{same_word, cell-store_same, cell-store_other}
-use Rattle.operands.specs.Kinds.{is_await}
+use Rattle.operands.specs.Kinds.{kind_number, is_await}
+use Rattle.operands.specs.Patterns.{fits}
+use Rattle.operands.specs.declared.instruction.Instruction as operands
 use Rattle.sheet.specs.declared.script.Script.{Script}
 use Rattle.sheet.specs.Decode.{parts_of}
 use Rattle.instructions.specs.declared.placed.Placed.{Placed}
-use Rattle.instructions.specs.Placed.{Stands, placed_at}
+use Rattle.instructions.specs.Placed.{Stands, IsPlaced}
 use Rattle.bitset.specs.Below.{AllBelow}
 use Rattle.instructions.specs.Sets.{inserted_all}
-use Rattle.bitset.proofs.Below.{below-get_or}
 use Rattle.script.specs.Script.{flow_code}
-use Rattle.blocks.proofs.ReadLaws.{Read, stands_at, read_at}
+use Rattle.blocks.proofs.ReadLaws.{Read, stands_at, fits_at, await_is_at, read_at}
 use Rattle.blocks.proofs.TransferLaws.{range-more}
 use Rattle.blocks.proofs.MemberLaws.{member-all}
 use Rattle.reads.specs.declared.Reads.{Reads}
@@ -52,6 +54,14 @@ awaits-more code start pc k h e =
     ∙ ap (λ (n : ℕ). awaits_among code start pc + n) (go (await_at code pc) ∙ ap (λ (t : Bool). pick {A = ℕ} t 1 0) e)
   where
     go : (t : Bool) → length (pick t (pc ∷ []) []) ≡ pick t 1 0
+    go true = refl
+    go false = refl
+
+-- a test for an await, as a number
+pub await_byte : (k : ℕ) (b : Bool) → b ≡ is_await k → bool_byte b ≡ await_count k
+await_byte k b e = rw (← e) (go b)
+  where
+    go : (b : Bool) → bool_byte b ≡ pick b 1 0
     go true = refl
     go false = refl
 
@@ -89,16 +99,23 @@ module _ {s : List ℕ} {x : Script} {y : Layout} {m : Mem} (ok : Coded s x y m)
   pub noted_stands : {at : ℕ} → at ≡ word m offset_cell i → Stands s at
   noted_stands e = stands_at ok.sound (e ∙ ok.offsets i there) there
 
-  pub noted_read : {at : ℕ} → at ≡ word m offset_cell i → {p : Placed} → p ≡ placed_at s at → Read s y.words i p
-  noted_read e f = read_at ok.sound (e ∙ ok.offsets i there) there ok.slots f
+  module _ {at : ℕ} (e : at ≡ word m offset_cell i) {p : Placed} (f : IsPlaced s at p) where
+    pub noted_fits : fits (kind_number p.kind) (length p.fields.now) ≡ true
+    noted_fits = fits_at ok.sound (e ∙ ok.offsets i there) there f
+
+    pub noted_read : (v : operands.Instruction) → v.kind ≡ p.kind → v.fields.now ≡ p.fields.now → Read s y.words i v
+    noted_read = read_at ok.sound (e ∙ ok.offsets i there) there f ok.slots
+
+    -- its kind tells whether it is an await
+    pub noted_await : await_at (flow_code (parts_of s)) i ≡ is_await (kind_number p.kind)
+    noted_await = await_is_at ok.sound (e ∙ ok.offsets i there) there f
 
 -- ---- a row of w words that stands for a set
 
--- an input that is missing
-means-missing : (w : ℕ) (ws : List ℕ) (f : ℕ → Bool) → Means w ws f → (l : List ℕ) (k : ℕ) → AllBelow (64 * w) l → k < length l
-    → member ws (get_or l k 0) ≡ false → every f l ≡ false
-means-missing w ws f g l k b h e =
-    not-true (every f l) (λ q. true≢false (sym (every_at f l q (get_or l k 0) (mem-get_or l k 0 h)) ∙ sym (g (get_or l k 0) (below-get_or (64 * w) l k 0 b h)) ∙ e))
+-- whether all inputs are there
+means-every : (w : ℕ) (ws : List ℕ) (f : ℕ → Bool) → Means w ws f → (l : List ℕ) → AllBelow (64 * w) l → every (member ws) l ≡ every f l
+means-every w ws f g [] b = refl
+means-every w ws f g (x ∷ l) b = ap₂ (λ (p q : Bool). p && q) (g x b.0) (means-every w ws f g l b.1)
 
 -- the outputs are put in, and nothing is emptied
 means-init : (code : List Instruction) (parameter : ℕ → Bool) (i w : ℕ) (ws : List ℕ) (f : ℕ → Bool) (outs : List ℕ) → length ws ≡ w
@@ -107,13 +124,6 @@ means-init : (code : List Instruction) (parameter : ℕ → Bool) (i w : ℕ) (w
 means-init code parameter i w ws f outs long o below means e s h =
     member-all outs ws w s long below ∙ ap (λ (t : Bool). t || elem s outs) (means s h) ∙ or_comm (f s) (elem s outs)
     ∙ sym (ap₂ (λ (a b : List ℕ). elem s a || (not (elem s b) && f s)) o e)
-
--- all inputs are there
-means-there : (w : ℕ) (ws : List ℕ) (f : ℕ → Bool) → Means w ws f → (l : List ℕ) → AllBelow (64 * w) l
-    → ((k : ℕ) → k < length l → member ws (get_or l k 0) ≡ true) → every f l ≡ true
-means-there w ws f g l b e =
-    every_to f l (λ a m. let k = mem-place l a 0 m in
-    ap f (sym k.2) ∙ sym (g (get_or l k.0 0) (below-get_or (64 * w) l k.0 0 b k.1)) ∙ e k.0 k.1)
 
 -- ---- after the instructions from start to pc
 
@@ -190,14 +200,12 @@ module _ {code : List Instruction} {parameter : ℕ → Bool} {y : Layout} {l : 
             (stop UnfilledSlot b)) (ap (every g) p ∙ q)
 
         -- an input is missing
-        pub reads_unfilled : {row : ℕ} (k : ℕ) → row ≡ state_row y.blocks → k < length ins → {t : Bool}
-            → t ≡ not (member (cell m' row) (get_or ins k 0)) → t ≡ true → {z : FlowBudget} → z ≡ b
-            → ReadsChecked code parameter y l budget start end m m' (Unfilled z)
-        reads_unfilled {row} k i j q v o = record {
+        pub reads_unfilled : {row : ℕ} → row ≡ state_row y.blocks → {t : Bool} → t ≡ not (every (member (cell m' row)) ins) → t ≡ true
+            → ReadsChecked code parameter y l budget start end m m' (Unfilled b)
+        reads_unfilled {row} i {t} q v = record {
           answer = λ f g. let u = a.run f g in
-              sym (u.2 ∙ met u.0 false (means-missing y.words _ u.0 u.1 ins k ib j
-              (ap (λ (n : ℕ). member (cell m' n) (get_or ins k 0)) (sym i) ∙ not_yes (member (cell m' row) (get_or ins k 0)) (sym q ∙ v)))
-              ∙ ap (stop UnfilledSlot) (sym o));
+              sym (u.2 ∙ met u.0 false (sym (means-every y.words _ u.0 u.1 ins ib)
+              ∙ ap (λ (n : ℕ). every (member (cell m' n)) ins) (sym i) ∙ not_yes (every (member (cell m' row)) ins) (sym q ∙ v)));
           counted = λ n z' w. let o : ◌≡◌ {A = ℕ} 0 1 = cc in absurd (omega arith);
           others = a.others;
         }
@@ -205,11 +213,11 @@ module _ {code : List Instruction} {parameter : ℕ → Bool} {y : Layout} {l : 
         -- one instruction more
         pub reading_more : {row : ℕ} (kind : ℕ) {k : ℕ} {outs : List ℕ} {m₁ : Mem} → row ≡ state_row y.blocks → row < length m'
             → length (cell m' row) ≡ y.words
-            → ((j : ℕ) → j < length ins → member (cell m' row) (get_or ins j 0) ≡ true)
+            → {t : Bool} → t ≡ not (every (member (cell m' row)) ins) → t ≡ false
             → (instruction_at code pc).outputs ≡ outs → (instruction_at code pc).emptied ≡ [] → AllBelow (64 * y.words) outs
             → m₁ ≡ store_cell m' row (inserted_all outs (cell m' row)) → await_at code pc ≡ is_await kind → k ≡ await_count kind → start ≤ pc
             → Reading code parameter y l budget b start end (pc + 1) (awaits + k) m m₁
-        reading_more {row} kind {k} {outs} {m₁} i lt wide all out none ob s aw ek sp =
+        reading_more {row} kind {k} {outs} {m₁} i lt wide {t} all filled out none ob s aw ek sp =
             let same : cell m₁ (state_row y.blocks) ≡ inserted_all outs (cell m' (state_row y.blocks)) =
             subst (λ (z : ℕ). cell m₁ z ≡ inserted_all outs (cell m' z)) i (ap (λ (z : Mem). cell z row) s ∙ cell-store_same m' row _ lt) in
             record {
@@ -218,8 +226,8 @@ module _ {code : List Instruction} {parameter : ℕ → Bool} {y : Layout} {l : 
                 subst (λ (ws : List ℕ). Means y.words ws (λ s. init_transfer (program code parameter) pc s (u.0 s))) (sym same)
                     (means-init code parameter pc y.words (cell m' (state_row y.blocks)) u.0 outs
                     (ap (λ (z : ℕ). length (cell m' z)) (sym i) ∙ wide) out ob u.1 none),
-                u.2 ∙ met u.0 true (means-there y.words _ u.0 u.1 ins ib
-                    (λ j lj. ap (λ (z : ℕ). member (cell m' z) (get_or ins j 0)) (sym i) ∙ all j lj))
+                u.2 ∙ met u.0 true (sym (means-every y.words _ u.0 u.1 ins ib)
+                    ∙ ap (λ (n : ℕ). every (member (cell m' n)) ins) (sym i) ∙ not-no (every (member (cell m' row)) ins) (sym all ∙ filled))
                     ∙ ap (λ (z : ℕ). reads_run code parameter l (λ s. init_transfer (program code parameter) pc s (u.0 s)) (range z (end - z)) b) next,
               );
               counted = ap₂ (λ (p q : ℕ). p + q) a.counted ek ∙ sym (awaits-more code start pc kind sp aw);

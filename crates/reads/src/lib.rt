@@ -1,22 +1,21 @@
 // The reads of one block, over the words of both buffers: what `check_points` of flow.rs does there from the front.
 #![tactic(auto)]
 
-ghost use Rattle.std.specs.Prelude.{◌≡◌, not, ◌*◌, ◌≤◌, ◌<◌, length, get_or};
+ghost use Rattle.std.specs.Prelude.{◌≡◌, not, ◌*◌, ◌≤◌, ◌<◌, length};
+ghost use Rattle.dataflow.specs.Lists.{every};
 ghost use Rattle.bitset.specs.Sets.{member};
 ghost use Rattle.bitset.specs.Below.{AllBelow};
-ghost use Rattle.operands.specs.Operands.{inputs_of};
-ghost use Rattle.operands.specs.Instructions.{Readable, values_of};
+ghost use Rattle.operands.specs.Instructions.{inputs_left};
 ghost use Rattle.memory.specs.Cells.{cell};
 ghost use Rattle.memory.specs.Scratch.{scratch, Room, Row};
 ghost use Rattle.sheet.specs.Decode.{parts_of};
 ghost use Rattle.script.specs.Script.{flow_code};
-ghost use Rattle.reads.specs.Reads.{held_set, await_count, Coded, Used, ReadsCharged, ReadsChecked};
+ghost use Rattle.reads.specs.Reads.{held_set, Coded, Used, ReadsCharged, ReadsChecked};
 
 use budget::{Charged, FlowBudget, Limits};
 use instructions::placed;
 use memory::layout;
-use operands::instruction::{Instruction, SlotOperand};
-use operands::{instruction, kinds};
+use operands::iter::Inputs;
 use sheet::script::Script;
 use sizes::Layout;
 
@@ -66,8 +65,7 @@ fn charge_reads(
 {
     let mut left = budget;
     let mut awaits = 0;
-    let mut pc = start;
-    while pc < end {
+    for pc in start..end {
         let cost = memory::scratch::get(s, y, layout::COST, pc);
         let paid = left.charge(cost, limits);
         let Charged::Ok(b) = paid else {
@@ -75,14 +73,12 @@ fn charge_reads(
         };
         left = b;
         let at = memory::scratch::get(s, y, layout::OFFSET, pc) as usize;
-        let p = placed::instruction_at(sheet, at);
-        awaits += await_count(p.instruction.pattern.kind);
-        pc += 1;
+        awaits += placed::instruction_at(sheet, at).kind.is_await() as usize;
     }
     Reads::Filled(awaits, left)
 }
 
-// The instructions from start to end in order; the first unfilled read leaves both loops.
+// The instructions from start to end in order, up to the first unfilled read.
 fn check_reads(
     sheet: &[u8],
     s: &mut [u64],
@@ -99,8 +95,7 @@ fn check_reads(
     let state = layout::state(y);
     let mut left = budget;
     let mut awaits = 0;
-    let mut pc = start;
-    'block: while pc < end {
+    for pc in start..end {
         let cost = memory::scratch::get(s, y, layout::COST, pc);
         let c = left.charge(cost, limits);
         let Charged::Ok(b) = c else {
@@ -108,41 +103,25 @@ fn check_reads(
         };
         left = b;
         let at = memory::scratch::get(s, y, layout::OFFSET, pc) as usize;
-        let p = placed::instruction_at(sheet, at);
-        let mut k = 0;
-        while k + 1 < cost as usize {
-            if misses_input(sheet, s, y, state, p.instruction, k) {
-                break 'block;
-            }
-            k += 1;
+        let instruction = placed::instruction_at(sheet, at).instruction();
+        if misses_input(s, y, state, instruction.inputs()) {
+            return Reads::Unfilled(left);
         }
-        blocks::transfer::insert_output(sheet, s, y, state, p.instruction);
-        awaits += await_count(p.instruction.pattern.kind);
-        pc += 1;
-    }
-    if pc < end {
-        return Reads::Unfilled(left);
+        blocks::transfer::insert_output(s, y, state, instruction);
+        awaits += instruction.kind.is_await() as usize;
     }
     Reads::Filled(awaits, left)
 }
 
-// Whether the k-th input is missing in a row.
-fn misses_input(sheet: &[u8], s: &[u64], y: Layout, row: usize, i: Instruction, k: usize) -> bool
-    requires { (Readable sheet.now i) × Room y (length s.now) × Row y row × (AllBelow (64 * y.words) (inputs_of i.pattern.kind (values_of sheet.now i))) × (k < length (inputs_of i.pattern.kind (values_of sheet.now i))) }
-    ensures { result ≡ not (member (cell (scratch y s.now) row) (get_or (inputs_of i.pattern.kind (values_of sheet.now i)) k 0)) }
+// Whether one of the inputs is missing in a row.
+fn misses_input(s: &[u64], y: Layout, row: usize, inputs: Inputs<'_>) -> bool
+    requires { Room y (length s.now) × Row y row × AllBelow (64 * y.words) (inputs_left inputs) }
+    ensures { result ≡ not (every (member (cell (scratch y s.now) row)) (inputs_left inputs.entry)) }
 {
-    let SlotOperand::Is(slot) = instruction::slot_input(sheet, i, k) else {
-        return false;
-    };
-    !memory::scratch::contains(s, y, row, slot.index())
-}
-
-// 1 for an await.
-fn await_count(kind: usize) -> usize
-    ensures { result ≡ await_count kind }
-{
-    if kinds::is_await(kind) {
-        return 1;
+    for slot in inputs {
+        if !memory::scratch::contains(s, y, row, slot.index()) {
+            return true;
+        }
     }
-    0
+    false
 }

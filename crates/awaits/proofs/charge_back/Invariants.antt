@@ -7,8 +7,7 @@ use Rattle.awaits.proofs.ChargeLaws.{back_from}
 use Rattle.awaits.proofs.charge_back.Given as goal
 
 abbrev pub invariant-loop-pc : goal.invariant-loop-pc
-invariant-loop-pc l =
-    (l.start ≤ l.pc) × (l.pc ≤ l.end) × (back_from (word (scratch l.y l.s) cost_cell) l.limits l.initial.left l.end l.pc ≡ on l.left)
-
-abbrev pub decreases-loop-pc : goal.decreases-loop-pc
-decreases-loop-pc l = l.pc
+invariant-loop-pc l = record {
+  low : l.start ≤ l.pc;
+  charged : back_from (word (scratch l.y l.s) cost_cell) l.limits l.initial.left l.end l.pc ≡ on l.left;
+}

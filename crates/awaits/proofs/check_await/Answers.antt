@@ -1,5 +1,5 @@
 -- `awaits::check_await` meets its contract: a law for each way out. Assumes nothing.
-use Rattle.std.proofs.Common.{refl, ap, ◌+◌, arith, rules}
+use Rattle.std.proofs.Common.{refl, ap, ◌+◌}
 use Rattle.memory.specs.Scratch.{scratch}
 use Rattle.memory.specs.Sets.{sets}
 use Rattle.awaits.proofs.AwaitLaws.{await_over, await_host, await_facts, await_passed}
@@ -34,16 +34,6 @@ returns-in_default-k c =
     await_facts a.y a.limits a.slots a.budget a.pc (a.place + 1) (scratch a.y a.s.now) (sets a.y a.t.now) _
     charge.ensures _ c.in-Ok.is _ _ hosts.ensures live_state.ensures _ common.ensures if1.false _ facts-bytes.ensures _
     retain.ensures _ _ c.in_default-k.is (ap (Refused FactsLimit) c.budget-in_default-k.ensures)
-
-pub await_entry-requires : goal.await_entry-requires
-await_entry-requires c =
-    let pre = c.requires in
-    (pre.1.blocks, omega (arith, pre.1.awaits))
-
-pub put_await-requires : goal.put_await-requires
-put_await-requires c =
-    let await-entry = c.await_entry in
-    (search rules, record { low = omega (arith, await-entry.ensures); high = omega (arith, await-entry.ensures) }, search rules, search rules)
 
 pub returns : goal.returns
 returns c =

@@ -1,37 +1,23 @@
--- `awaits::slots::insert_inputs` meets its contract: what is left to put in after k turns gives the same row. Assumes nothing.
-use Rattle.std.proofs.Common.{refl, sym, subst, ◌∙◌, ℕ, arith}
-use Rattle.memory.specs.Scratch.{scratch, Room}
+-- `awaits::slots::insert_inputs` meets its contract: what is left to put in gives the same row. Assumes nothing.
+use Rattle.std.proofs.Common.{sym, ap, subst, ◌∙◌, ◌*◌, List, ℕ, arith}
+use Rattle.bitset.specs.Below.{AllBelow}
+use Rattle.memory.specs.Scratch.{scratch}
 use Rattle.memory.proofs.ScratchLaws.{scratch-length}
-use Rattle.operands.specs.Instructions.{values_of}
-use Rattle.operands.specs.Operands.{inputs_of}
-use Rattle.awaits.proofs.SlotLaws.{put-more, put-all}
+use Rattle.operands.specs.Instructions.{inputs_left}
+use Rattle.awaits.proofs.SlotLaws.{put_all, put-more, put-all}
 use Rattle.awaits.proofs.slots.insert_inputs.Goals as goal
 
-pub loop-k-init : goal.loop-k-init
-loop-k-init c =
-    (omega arith, refl, refl)
-
-pub insert_input-requires : goal.insert_input-requires
-insert_input-requires c =
-    let args = c.args in
-    let pre = c.requires in
-    let loop = c.loop-k in
-    (pre.0, subst (λ (n : ℕ). Room args.y n) (sym loop.invariant.1) pre.1, pre.2, pre.3, omega (arith, pre.4, c.loop-k-test.true))
-
-pub loop-k-preserved : goal.loop-k-preserved
-loop-k-preserved c =
-    let args = c.args in
-    let pre = c.requires in
-    let loop = c.loop-k in (
-      omega arith,
-      c.insert_input.auto.s ∙ loop.invariant.1,
-      put-more args.row (inputs_of args.i.pattern.kind (values_of args.sheet.now args.i)) (scratch args.y loop.s) _ loop.k
-          (omega (arith, pre.4, c.loop-k-test.true)) (omega (arith, scratch-length args.y loop.s, pre.2.high)) c.insert_input.ensures ∙ loop.invariant.2,
-    )
+pub loop-slot-preserved : goal.loop-slot-preserved
+loop-slot-preserved c =
+    let l = c.loop-slot in
+    let steps = c.in-Some.ensures.steps in record {
+      long = c.insert.auto.s ∙ l.invariant.long;
+      below = (subst (AllBelow (64 * c.args.y.words)) steps l.invariant.below).1;
+      put = put-more c.args.row _ _ _ (scratch c.args.y l.s) _ steps (omega (arith, scratch-length c.args.y l.s, c.requires.1.high))
+          (rw (← c.index.ensures) c.insert.ensures) ∙ l.invariant.put;
+    }
 
 pub returns : goal.returns
 returns c =
-    let args = c.args in
-    let loop = c.loop-k in
-    sym (put-all args.row (inputs_of args.i.pattern.kind (values_of args.sheet.now args.i)) (scratch args.y loop.s) loop.k
-    (omega (arith, c.requires.4, c.loop-k-test.false))) ∙ loop.invariant.2
+    sym (put-all c.args.row _ (scratch c.args.y c.loop-slot.s) c.in-None.ensures.steps.0) ∙ c.loop-slot.invariant.put
+    ∙ ap (λ (l : List ℕ). put_all c.args.row l (scratch c.args.y c.args.s.now)) (ap inputs_left c.into_iter-slot-iterator.ensures.into_iter_gives)

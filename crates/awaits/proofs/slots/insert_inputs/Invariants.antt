@@ -1,12 +1,13 @@
-use Rattle.std.proofs.Common.{◌≡◌, ◌-◌, ◌≤◌, length, drop}
+use Rattle.std.proofs.Common.{◌≡◌, ◌*◌, length}
+use Rattle.bitset.specs.Below.{AllBelow}
 use Rattle.memory.specs.Scratch.{scratch}
-use Rattle.operands.specs.Instructions.{values_of}
-use Rattle.operands.specs.Operands.{inputs_of}
+use Rattle.operands.specs.Instructions.{inputs_left}
 use Rattle.awaits.proofs.SlotLaws.{put_all}
 use Rattle.awaits.proofs.slots.insert_inputs.Given as goal
 
-abbrev pub invariant-loop-k : goal.invariant-loop-k
-invariant-loop-k l = (l.k ≤ l.n) × (length l.s ≡ length l.initial.s) × (put_all l.row (drop l.k (inputs_of l.i.pattern.kind (values_of l.sheet l.i))) (scratch l.y l.s) ≡ put_all l.row (inputs_of l.i.pattern.kind (values_of l.sheet l.i)) (scratch l.y l.initial.s))
-
-abbrev pub decreases-loop-k : goal.decreases-loop-k
-decreases-loop-k l = l.n - l.k
+abbrev pub invariant-loop-slot : goal.invariant-loop-slot
+invariant-loop-slot l = record {
+  long : length l.s ≡ length l.initial.s;
+  below : AllBelow (64 * l.y.words) (inputs_left l.slot-iterator);
+  put : put_all l.row (inputs_left l.slot-iterator) (scratch l.y l.s) ≡ put_all l.row (inputs_left l.initial.slot-iterator) (scratch l.y l.initial.s);
+}

@@ -3,21 +3,9 @@ use Rattle.std.proofs.Common.{sym, subst, ◌∙◌, ℕ, ◌-◌, arith, length
 use Rattle.memory.specs.Names.{offset_cell, start_cell, end_cell}
 use Rattle.memory.specs.Scratch.{Room}
 use Rattle.blocks.proofs.BlockLaws.{emptied, spans, end_inside}
-use Rattle.blocks.proofs.BlockLaws.{last_inside, last_stands, last_read, last_targets, last_behind, last_next, still_ready, built_one}
+use Rattle.blocks.proofs.BlockLaws.{last_inside, last_stands, last_fits, last_targets, last_behind, last_next, still_ready, built_one}
 use Rattle.memory.proofs.ScratchLaws.{scratch_sized, place_instructions, place_blocks}
 use Rattle.blocks.proofs.blocks.block.Goals as goal
-
-pub span-requires : goal.span-requires
-span-requires c =
-    let pre = c.requires in
-    (pre.0, pre.2, pre.1.fits.few_blocks)
-
-pub empty-requires : goal.empty-requires
-empty-requires c =
-    let args = c.args in
-    let pre = c.requires in
-    let span = c.span in
-    (subst (λ (n : ℕ). Room args.y n) (sym span.auto.s) pre.0, pre.2)
 
 pub get-start-requires : goal.get-start-requires
 get-start-requires c =
@@ -66,8 +54,8 @@ get-at-requires c =
           (omega arith) (last_inside pre.1 pre.2 em get.ensures get2.ensures),
     )
 
-pub instruction_at-p-requires : goal.instruction_at-p-requires
-instruction_at-p-requires c =
+pub instruction_at-requires : goal.instruction_at-requires
+instruction_at-requires c =
     let args = c.args in
     let pre = c.requires in
     let span = c.span in
@@ -78,6 +66,13 @@ instruction_at-p-requires c =
     let em = emptied pre.1 pre.2 (scratch_sized args.s.now pre.0) span.ensures empty.ensures in
     last_stands pre.1 pre.2 em get.ensures get2.ensures get3.ensures
 
+pub instruction-last-requires : goal.instruction-last-requires
+instruction-last-requires c =
+    let args = c.args in
+    let pre = c.requires in
+    let em = emptied pre.1 pre.2 (scratch_sized args.s.now pre.0) c.span.ensures c.empty.ensures in
+    last_fits pre.1 pre.2 em c.get-start.ensures c.get-end.ensures c.get-at.ensures c.instruction_at.ensures
+
 pub successors-requires : goal.successors-requires
 successors-requires c =
     let args = c.args in
@@ -87,13 +82,12 @@ successors-requires c =
     let get = c.get-start in
     let get2 = c.get-end in
     let get3 = c.get-at in
-    let instruction-at = c.instruction_at-p in
+    let last = c.instruction-last in
     let em = emptied pre.1 pre.2 (scratch_sized args.s.now pre.0) span.ensures empty.ensures in (
-      (last_read pre.1 pre.2 em get.ensures get2.ensures get3.ensures instruction-at.ensures).readable,
       subst (λ (n : ℕ). Room args.y n) (sym (empty.auto.s ∙ span.auto.s)) pre.0,
       pre.2,
-      last_targets pre.1 pre.2 em get.ensures get2.ensures get3.ensures instruction-at.ensures,
-      last_behind pre.1 pre.2 em get.ensures get2.ensures get3.ensures instruction-at.ensures,
+      last_targets pre.1 pre.2 em get.ensures get2.ensures get3.ensures c.instruction_at.ensures last.result last.ensures.kind_is last.ensures.fields_are,
+      last_behind pre.1 pre.2 em get.ensures get2.ensures get3.ensures c.instruction_at.ensures last.result last.ensures.kind_is last.ensures.fields_are,
     )
 
 pub transfer-requires : goal.transfer-requires
@@ -105,25 +99,17 @@ transfer-requires c =
     let get = c.get-start in
     let get2 = c.get-end in
     let get3 = c.get-at in
-    let instruction-at = c.instruction_at-p in
+    let last = c.instruction-last in
     let successors = c.successors in
     let em = emptied pre.1 pre.2 (scratch_sized args.s.now pre.0) span.ensures empty.ensures in
     let room : Room args.y (length empty.new.s) = subst (λ (n : ℕ). Room args.y n) (sym (empty.auto.s ∙ span.auto.s)) pre.0 in
-    let next = last_next pre.1 pre.2 em get.ensures get2.ensures get3.ensures instruction-at.ensures in (
+    let next = last_next pre.1 pre.2 em get.ensures get2.ensures get3.ensures c.instruction_at.ensures last.result last.ensures.kind_is last.ensures.fields_are in (
       subst (λ (n : ℕ). Room args.y n) (sym successors.auto.s) room,
       still_ready pre.1 pre.2 em get.ensures get2.ensures (scratch_sized empty.new.s room) next successors.ensures,
       pre.2,
       omega (arith, (spans pre.1 pre.2 em get.ensures get2.ensures).some),
       end_inside pre.1 pre.2 em get.ensures get2.ensures,
     )
-
-pub shape_of-s : goal.shape_of-s
-shape_of-s c =
-    let transfer = c.transfer in
-    let successors = c.successors in
-    let empty = c.empty in
-    let span = c.span in
-    transfer.auto.s ∙ successors.auto.s ∙ empty.auto.s ∙ span.auto.s
 
 pub returns : goal.returns
 returns c =
@@ -134,10 +120,10 @@ returns c =
     let get = c.get-start in
     let get2 = c.get-end in
     let get3 = c.get-at in
-    let instruction-at = c.instruction_at-p in
+    let last = c.instruction-last in
     let successors = c.successors in
     let transfer = c.transfer in
     let em = emptied pre.1 pre.2 (scratch_sized args.s.now pre.0) span.ensures empty.ensures in
     let room : Room args.y (length empty.new.s) = subst (λ (n : ℕ). Room args.y n) (sym (empty.auto.s ∙ span.auto.s)) pre.0 in
-    let next = last_next pre.1 pre.2 em get.ensures get2.ensures get3.ensures instruction-at.ensures in
+    let next = last_next pre.1 pre.2 em get.ensures get2.ensures get3.ensures c.instruction_at.ensures last.result last.ensures.kind_is last.ensures.fields_are in
     built_one pre.1 pre.2 em get.ensures get2.ensures (scratch_sized empty.new.s room) next successors.ensures transfer.ensures

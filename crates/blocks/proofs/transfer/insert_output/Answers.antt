@@ -1,30 +1,20 @@
 -- `blocks::transfer::insert_output` meets its contract. Assumes nothing.
-use Rattle.std.proofs.Common.{◌*◌, arith, refl}
+use Rattle.std.proofs.Common.{◌*◌, arith}
 use Rattle.memory.specs.Scratch.{scratch}
-use Rattle.operands.specs.Instructions.{values_of}
-use Rattle.operands.specs.Operands.{output_of}
+use Rattle.operands.specs.Instructions.{output_in}
 use Rattle.script.specs.Script.{list_of}
 use Rattle.blocks.proofs.OperandLaws.{output_there, output_missing, below-first}
 use Rattle.blocks.proofs.UseLaws.{defined-one, defined-none}
 use Rattle.blocks.proofs.transfer.insert_output.Goals as goal
 
-pub returns-in_default : goal.returns-in_default
-returns-in_default c =
-    let args = c.args in
-    defined-none _ _ _ (output_missing _ (output_of args.i.pattern.kind (values_of args.sheet.now args.i)) c.slot_output.ensures
-    c.in_default.is)
-
 pub insert-requires : goal.insert-requires
 insert-requires c =
-    let args = c.args in
-    let pre = c.requires in
-    let o = output_of args.i.pattern.kind (values_of args.sheet.now args.i) in
-    let e = output_there _ o c.slot_output.ensures _ c.in-Is.is in
-    (pre.1, pre.2, omega (arith, c.index.ensures, below-first (64 * args.y.words) _ (list_of o) e pre.3))
+    let e = output_there _ (output_in c.args.instruction) c.in-Some.ensures in
+    (c.requires.0, c.requires.1, omega (arith, c.index.ensures, below-first (64 * c.args.y.words) _ (list_of (output_in c.args.instruction)) e c.requires.2))
 
-pub returns : goal.returns
-returns c =
-    let args = c.args in
-    let o = output_of args.i.pattern.kind (values_of args.sheet.now args.i) in
-    defined-one (scratch args.y args.s.now) _ _ _ _ _ _ refl (output_there _ o c.slot_output.ensures _ c.in-Is.is) c.index.ensures
-    c.insert.ensures
+pub returns-in-Some : goal.returns-in-Some
+returns-in-Some c =
+    defined-one (scratch c.args.y c.args.s.now) _ _ _ _ _ (output_there _ (output_in c.args.instruction) c.in-Some.ensures) c.index.ensures c.insert.ensures
+
+pub returns-in_default : goal.returns-in_default
+returns-in_default c = defined-none _ _ _ (output_missing (output_in c.args.instruction) c.in_default.ensures)

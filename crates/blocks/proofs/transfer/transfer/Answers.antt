@@ -1,160 +1,82 @@
 -- `blocks::transfer::transfer` meets its contract. Assumes nothing.
-use Rattle.std.proofs.Common.{refl, sym, ap, subst, ◌∙◌, ℕ, arith, length}
+use Rattle.std.proofs.Common.{refl, sym, ap, subst, ◌∙◌, ◌*◌, arith, length}
+use Rattle.bitset.specs.Below.{AllBelow}
 use Rattle.memory.specs.Names.{offset_cell, cost_cell}
 use Rattle.memory.specs.Scratch.{scratch, Room}
 use Rattle.blocks.proofs.TransferLaws.{transferring_none, transferring_more, transferred_over, transferred_all}
-use Rattle.blocks.proofs.TransferLaws.{noted_stands, noted_read, offsets-stay}
+use Rattle.blocks.proofs.TransferLaws.{noted_stands, noted_fits, noted_read, offsets-stay}
 use Rattle.memory.proofs.ScratchLaws.{scratch_sized, place_instructions}
 use Rattle.blocks.proofs.transfer.transfer.Goals as goal
 
 pub loop-pc-init : goal.loop-pc-init
 loop-pc-init c =
-    let pre = c.requires in
-    (omega arith, pre.3, refl, transferring_none)
+    record { long = refl; going = transferring_none }
 
 pub get-at-requires : goal.get-at-requires
 get-at-requires c =
-    let args = c.args in
-    let pre = c.requires in
-    let loop = c.loop-pc in
-    let test = c.loop-pc-test in (
-      subst (λ (n : ℕ). Room args.y n) (sym loop.invariant.2) pre.0,
-      place_instructions args.y offset_cell loop.pc (omega arith)
-          (omega (arith, test.true, pre.4)),
-    )
+    (subst (Room c.args.y) (sym c.loop-pc.invariant.long) c.requires.0, place_instructions c.args.y offset_cell c.loop-pc.pc (omega arith) (omega arith))
 
-pub instruction_at-p-requires : goal.instruction_at-p-requires
-instruction_at-p-requires c =
-    let args = c.args in
-    let pre = c.requires in
-    let loop = c.loop-pc in
-    let test = c.loop-pc-test in
-    let get = c.get-at in
-    noted_stands pre.1 (scratch args.y loop.s) (offsets-stay loop.invariant.3) loop.pc (omega (arith, test.true, pre.4)) get.ensures
+pub instruction_at-requires : goal.instruction_at-requires
+instruction_at-requires c =
+    noted_stands c.requires.1 (scratch c.args.y c.loop-pc.s) (offsets-stay c.loop-pc.invariant.going) c.loop-pc.pc (omega arith) c.get-at.ensures
 
-pub slot_input_count-n-requires : goal.slot_input_count-n-requires
-slot_input_count-n-requires c =
-    let args = c.args in
-    let pre = c.requires in
-    let loop = c.loop-pc in
-    let test = c.loop-pc-test in
-    let get = c.get-at in
-    let instruction-at = c.instruction_at-p in
-    (noted_read pre.1 (scratch args.y loop.s) (offsets-stay loop.invariant.3) loop.pc (omega (arith, test.true, pre.4)) get.ensures instruction-at.ensures).readable
+pub instruction-instruction-requires : goal.instruction-instruction-requires
+instruction-instruction-requires c =
+    noted_fits c.requires.1 (scratch c.args.y c.loop-pc.s) (offsets-stay c.loop-pc.invariant.going) c.loop-pc.pc (omega arith) c.get-at.ensures
+    c.instruction_at.ensures
 
-pub overflow_add-n : goal.overflow_add-n
-overflow_add-n c =
-    let args = c.args in
-    let pre = c.requires in
-    let loop = c.loop-pc in
-    let test = c.loop-pc-test in
-    let get = c.get-at in
-    let instruction-at = c.instruction_at-p in
-    let slot-input-count = c.slot_input_count-n in
-    let r = noted_read pre.1 (scratch args.y loop.s) (offsets-stay loop.invariant.3) loop.pc (omega (arith, test.true, pre.4)) get.ensures instruction-at.ensures in
-    omega (arith, c.well_formed, r.few, r.readable.within, slot-input-count.ensures)
+pub overflow_add-cost : goal.overflow_add-cost
+overflow_add-cost c =
+    let v = c.instruction-instruction in
+    let r = noted_read c.requires.1 (scratch c.args.y c.loop-pc.s) (offsets-stay c.loop-pc.invariant.going) c.loop-pc.pc (omega arith) c.get-at.ensures
+    c.instruction_at.ensures v.result v.ensures.kind_is v.ensures.fields_are in
+    omega (arith, c.well_formed, r.few, c.len.ensures.value, ap length c.inputs-inputs.ensures)
 
 pub put-requires : goal.put-requires
 put-requires c =
-    let args = c.args in
-    let pre = c.requires in
-    let loop = c.loop-pc in
-    let test = c.loop-pc-test in (
-      subst (λ (n : ℕ). Room args.y n) (sym loop.invariant.2) pre.0,
-      place_instructions args.y cost_cell loop.pc (omega arith)
-          (omega (arith, test.true, pre.4)),
-    )
-
-pub overflow_add-n-in-loop-pc : goal.overflow_add-n-in-loop-pc
-overflow_add-n-in-loop-pc c =
-    let args = c.args in
-    let pre = c.requires in
-    let loop = c.loop-pc in
-    let test = c.loop-pc-test in
-    let get = c.get-at in
-    let instruction-at = c.instruction_at-p in
-    let slot-input-count = c.slot_input_count-n in
-    let r = noted_read pre.1 (scratch args.y loop.s) (offsets-stay loop.invariant.3) loop.pc (omega (arith, test.true, pre.4)) get.ensures instruction-at.ensures in
-    omega (arith, c.well_formed, r.few, r.readable.within, slot-input-count.ensures)
+    (subst (Room c.args.y) (sym c.loop-pc.invariant.long) c.requires.0, place_instructions c.args.y cost_cell c.loop-pc.pc (omega arith) (omega arith))
 
 pub returns-in_default : goal.returns-in_default
 returns-in_default c =
-    let args = c.args in
-    let pre = c.requires in
-    let loop = c.loop-pc in
-    let test = c.loop-pc-test in
-    let get = c.get-at in
-    let instruction-at = c.instruction_at-p in
-    let slot-input-count = c.slot_input_count-n in
-    let put = c.put in
-    let charge = c.charge-c in
-    let r = noted_read pre.1 (scratch args.y loop.s) (offsets-stay loop.invariant.3) loop.pc (omega (arith, test.true, pre.4)) get.ensures instruction-at.ensures in
-    transferred_over loop.invariant.0 loop.invariant.3 (slot-input-count.ensures ∙ ap length (sym r.inputs_are)) put.ensures charge.ensures test.true c.in_default.is
+    let v = c.instruction-instruction in
+    let r = noted_read c.requires.1 (scratch c.args.y c.loop-pc.s) (offsets-stay c.loop-pc.invariant.going) c.loop-pc.pc (omega arith) c.get-at.ensures
+    c.instruction_at.ensures v.result v.ensures.kind_is v.ensures.fields_are in
+    transferred_over (omega arith) c.loop-pc.invariant.going (c.len.ensures.value ∙ ap length (c.inputs-inputs.ensures ∙ sym r.inputs_are)) c.put.ensures
+    c.charge-c.ensures c.loop-pc-test.true c.in_default.is
 
 pub use_inputs-requires : goal.use_inputs-requires
 use_inputs-requires c =
-    let args = c.args in
-    let pre = c.requires in
-    let loop = c.loop-pc in
-    let test = c.loop-pc-test in
-    let get = c.get-at in
-    let instruction-at = c.instruction_at-p in
-    let put = c.put in
-    let slot-input-count = c.slot_input_count-n in
-    let r = noted_read pre.1 (scratch args.y loop.s) (offsets-stay loop.invariant.3) loop.pc (omega (arith, test.true, pre.4)) get.ensures instruction-at.ensures in (
-      r.readable,
-      subst (λ (n : ℕ). Room args.y n) (sym (put.auto.s ∙ loop.invariant.2)) pre.0,
-      pre.2,
-      r.inputs_below,
-      slot-input-count.ensures,
+    let v = c.instruction-instruction in
+    let r = noted_read c.requires.1 (scratch c.args.y c.loop-pc.s) (offsets-stay c.loop-pc.invariant.going) c.loop-pc.pc (omega arith) c.get-at.ensures
+    c.instruction_at.ensures v.result v.ensures.kind_is v.ensures.fields_are in (
+      subst (Room c.args.y) (sym (c.put.auto.s ∙ c.loop-pc.invariant.long)) c.requires.0,
+      c.requires.2,
+      subst (AllBelow (64 * c.args.y.words)) (sym c.inputs-inputs.ensures) r.inputs_below,
     )
 
-pub define_output-requires : goal.define_output-requires
-define_output-requires c =
-    let args = c.args in
-    let pre = c.requires in
-    let loop = c.loop-pc in
-    let test = c.loop-pc-test in
-    let get = c.get-at in
-    let instruction-at = c.instruction_at-p in
-    let use-inputs = c.use_inputs in
-    let put = c.put in
-    let r = noted_read pre.1 (scratch args.y loop.s) (offsets-stay loop.invariant.3) loop.pc (omega (arith, test.true, pre.4)) get.ensures instruction-at.ensures in (
-      r.readable,
-      subst (λ (n : ℕ). Room args.y n) (sym (use-inputs.auto.s ∙ put.auto.s ∙ loop.invariant.2)) pre.0,
-      pre.2,
+pub insert_output-requires : goal.insert_output-requires
+insert_output-requires c =
+    let v = c.instruction-instruction in
+    let r = noted_read c.requires.1 (scratch c.args.y c.loop-pc.s) (offsets-stay c.loop-pc.invariant.going) c.loop-pc.pc (omega arith) c.get-at.ensures
+    c.instruction_at.ensures v.result v.ensures.kind_is v.ensures.fields_are in (
+      subst (Room c.args.y) (sym (c.use_inputs.auto.s ∙ c.put.auto.s ∙ c.loop-pc.invariant.long)) c.requires.0,
+      record { low = omega (arith, c.defines.ensures); high = omega (arith, c.defines.ensures, c.requires.2) },
       r.output_below,
     )
 
-pub overflow_add-pc : goal.overflow_add-pc
-overflow_add-pc c =
-    let pre = c.requires in
-    let test = c.loop-pc-test in
-    omega (arith, test.true, pre.4, pre.0.instructions)
-
 pub loop-pc-preserved : goal.loop-pc-preserved
 loop-pc-preserved c =
-    let args = c.args in
-    let pre = c.requires in
-    let loop = c.loop-pc in
-    let test = c.loop-pc-test in
-    let get = c.get-at in
-    let instruction-at = c.instruction_at-p in
-    let define-output = c.define_output in
-    let use-inputs = c.use_inputs in
-    let put = c.put in
-    let slot-input-count = c.slot_input_count-n in
-    let charge = c.charge-c in
-    let r = noted_read pre.1 (scratch args.y loop.s) (offsets-stay loop.invariant.3) loop.pc (omega (arith, test.true, pre.4)) get.ensures instruction-at.ensures in
-    let room : Room args.y (length loop.s) = subst (λ (n : ℕ). Room args.y n) (sym loop.invariant.2) pre.0 in (
-      omega (arith, loop.invariant.0),
-      omega (arith, test.true),
-      define-output.auto.s ∙ use-inputs.auto.s ∙ put.auto.s ∙ loop.invariant.2,
-      transferring_more loop.invariant.0 loop.invariant.3 (slot-input-count.ensures ∙ ap length (sym r.inputs_are)) put.ensures charge.ensures args.y (scratch_sized loop.s room) c.in-Ok.is r.inputs_are r.outputs_are (omega (arith, test.true, pre.4)) pre.2 use-inputs.ensures define-output.ensures,
-    )
+    let l = c.loop-pc in
+    let v = c.instruction-instruction in
+    let r = noted_read c.requires.1 (scratch c.args.y l.s) (offsets-stay l.invariant.going) l.pc (omega arith) c.get-at.ensures
+    c.instruction_at.ensures v.result v.ensures.kind_is v.ensures.fields_are in
+    let room : Room c.args.y (length l.s) = subst (Room c.args.y) (sym l.invariant.long) c.requires.0 in record {
+      long = c.insert_output.auto.s ∙ c.use_inputs.auto.s ∙ c.put.auto.s ∙ l.invariant.long;
+      going = transferring_more (omega arith) l.invariant.going (c.len.ensures.value ∙ ap length (c.inputs-inputs.ensures ∙ sym r.inputs_are)) c.put.ensures
+          c.charge-c.ensures c.args.y (scratch_sized l.s room) c.in-Ok.is (r.inputs_are ∙ sym c.inputs-inputs.ensures) r.outputs_are (omega arith) c.requires.2
+          c.use_inputs.ensures (rw c.defines.ensures at c.insert_output.ensures);
+    }
 
 pub returns : goal.returns
 returns c =
-    let loop = c.loop-pc in
-    let test = c.loop-pc-test in
-    transferred_all (omega (arith, test.false, loop.invariant.1)) loop.invariant.3
+    transferred_all (omega arith) c.loop-pc.invariant.going

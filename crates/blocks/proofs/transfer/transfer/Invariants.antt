@@ -1,4 +1,4 @@
-use Rattle.std.proofs.Common.{◌≡◌, ◌-◌, ◌≤◌, length}
+use Rattle.std.proofs.Common.{◌≡◌, length}
 use Rattle.memory.specs.Scratch.{scratch}
 use Rattle.script.specs.Script.{flow_code}
 use Rattle.sheet.specs.Decode.{parts_of}
@@ -6,9 +6,7 @@ use Rattle.blocks.proofs.TransferLaws.{Transferring}
 use Rattle.blocks.proofs.transfer.transfer.Given as goal
 
 abbrev pub invariant-loop-pc : goal.invariant-loop-pc
-invariant-loop-pc l =
-    (l.start ≤ l.pc) × (l.pc ≤ l.end) × (length l.s ≡ length l.initial.s) × Transferring (flow_code (parts_of l.sheet)) l.limits l.initial.left l.left l.block l.start l.pc (scratch l.y l.initial.s)
-    (scratch l.y l.s)
-
-abbrev pub decreases-loop-pc : goal.decreases-loop-pc
-decreases-loop-pc l = l.end - l.pc
+invariant-loop-pc l = record {
+  long : length l.s ≡ length l.initial.s;
+  going : Transferring (flow_code (parts_of l.sheet)) l.limits l.initial.left l.left l.block l.fn.start l.pc (scratch l.y l.initial.s) (scratch l.y l.s);
+}

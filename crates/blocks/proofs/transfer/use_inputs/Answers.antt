@@ -1,43 +1,32 @@
 -- `blocks::transfer::use_inputs` meets its contract. Assumes nothing.
-use Rattle.std.proofs.Common.{refl, sym, subst, ◌∙◌, ℕ, arith, rules}
+use Rattle.std.proofs.Common.{sym, ap, subst, ◌∙◌, ◌*◌, ℕ, List, arith}
+use Rattle.bitset.specs.Below.{AllBelow}
 use Rattle.memory.specs.Scratch.{scratch, Room}
-use Rattle.operands.specs.Instructions.{values_of}
-use Rattle.operands.specs.Operands.{inputs_of}
-use Rattle.blocks.proofs.UseLaws.{used-more, used_all}
+use Rattle.operands.specs.Instructions.{inputs_left}
+use Rattle.blocks.proofs.UseLaws.{used_at, used-more, used_all}
 use Rattle.memory.proofs.ScratchLaws.{scratch-length}
 use Rattle.blocks.proofs.transfer.use_inputs.Goals as goal
 
-pub loop-k-init : goal.loop-k-init
-loop-k-init c =
-    (omega arith, refl, refl)
-
-pub use_input-requires : goal.use_input-requires
-use_input-requires c =
-    let args = c.args in
-    let pre = c.requires in
-    let loop = c.loop-k in
-    let test = c.loop-k-test in
-    (pre.0, subst (λ (n : ℕ). Room args.y n) (sym loop.invariant.1) pre.1, pre.2, pre.3, omega (arith, pre.4, test.true))
-
-pub loop-k-preserved : goal.loop-k-preserved
-loop-k-preserved c =
-    let args = c.args in
-    let pre = c.requires in
-    let loop = c.loop-k in
-    let test = c.loop-k-test in
-    let use-input = c.use_input in (
-      omega arith,
-      search rules,
-      used-more args.block (inputs_of args.i.pattern.kind (values_of args.sheet.now args.i))
-          (scratch args.y loop.s) _ loop.k (omega (arith, pre.4, test.true)) (omega (arith, scratch-length args.y loop.s, pre.2))
-          use-input.ensures ∙ loop.invariant.2,
+pub insert_unless-requires : goal.insert_unless-requires
+insert_unless-requires c =
+    let below = subst (AllBelow (64 * c.args.y.words)) c.in-Some.ensures.steps c.loop-slot.invariant.below in (
+      subst (Room c.args.y) (sym c.loop-slot.invariant.long) c.requires.0,
+      record { low = omega (arith, c.uses.ensures); high = omega (arith, c.uses.ensures, c.requires.1) },
+      record { low = omega (arith, c.defines.ensures); high = omega (arith, c.defines.ensures, c.requires.1) },
+      omega (arith, c.index.ensures, below.0),
     )
+
+pub loop-slot-preserved : goal.loop-slot-preserved
+loop-slot-preserved c =
+    let l = c.loop-slot in
+    let steps = c.in-Some.ensures.steps in record {
+      long = c.insert_unless.auto.s ∙ l.invariant.long;
+      below = (subst (AllBelow (64 * c.args.y.words)) steps l.invariant.below).1;
+      used = used-more c.args.block _ _ _ (scratch c.args.y l.s) _ steps (omega (arith, scratch-length c.args.y l.s, c.requires.1))
+          (rw (← c.uses.ensures, ← c.defines.ensures, ← c.index.ensures) c.insert_unless.ensures) ∙ l.invariant.used;
+    }
 
 pub returns : goal.returns
 returns c =
-    let args = c.args in
-    let pre = c.requires in
-    let loop = c.loop-k in
-    let test = c.loop-k-test in
-    sym (used_all args.block (inputs_of args.i.pattern.kind (values_of args.sheet.now args.i)) (scratch args.y loop.s)
-    loop.k (omega (arith, pre.4, test.false))) ∙ loop.invariant.2
+    sym (used_all c.args.block _ (scratch c.args.y c.loop-slot.s) c.in-None.ensures.steps.0) ∙ c.loop-slot.invariant.used
+    ∙ ap (λ (l : List ℕ). used_at c.args.block l (scratch c.args.y c.args.s.now)) (ap inputs_left c.into_iter-slot-iterator.ensures.into_iter_gives)

@@ -1,14 +1,13 @@
-use Rattle.std.proofs.Common.{◌≡◌, ◌-◌, ◌≤◌, length, drop}
+use Rattle.std.proofs.Common.{◌≡◌, ◌*◌, length}
+use Rattle.bitset.specs.Below.{AllBelow}
 use Rattle.memory.specs.Scratch.{scratch}
-use Rattle.operands.specs.Instructions.{values_of}
-use Rattle.operands.specs.Operands.{inputs_of}
+use Rattle.operands.specs.Instructions.{inputs_left}
 use Rattle.blocks.proofs.UseLaws.{used_at}
 use Rattle.blocks.proofs.transfer.use_inputs.Given as goal
 
-abbrev pub invariant-loop-k : goal.invariant-loop-k
-invariant-loop-k l =
-    (l.k ≤ l.n) × (length l.s ≡ length l.initial.s) × (used_at l.block (drop l.k (inputs_of l.i.pattern.kind (values_of l.sheet l.i))) (scratch l.y l.s) ≡ used_at l.block
-    (inputs_of l.i.pattern.kind (values_of l.sheet l.i)) (scratch l.y l.initial.s))
-
-abbrev pub decreases-loop-k : goal.decreases-loop-k
-decreases-loop-k l = l.n - l.k
+abbrev pub invariant-loop-slot : goal.invariant-loop-slot
+invariant-loop-slot l = record {
+  long : length l.s ≡ length l.initial.s;
+  below : AllBelow (64 * l.y.words) (inputs_left l.slot-iterator);
+  used : used_at l.block (inputs_left l.slot-iterator) (scratch l.y l.s) ≡ used_at l.block (inputs_left l.initial.slot-iterator) (scratch l.y l.initial.s);
+}

@@ -3,7 +3,7 @@ use Rattle.std.proofs.Common.{sym, subst, ◌∙◌, ℕ, arith}
 use Rattle.leaders.specs.Leaders.{marking}
 use Rattle.memory.specs.Names.{block_of_cell}
 use Rattle.memory.specs.Scratch.{Room}
-use Rattle.leaders.proofs.LeaderLaws.{begun, leads_from}
+use Rattle.leaders.proofs.LeaderLaws.{begun}
 use Rattle.memory.proofs.ScratchLaws.{scratch_sized, place_instructions}
 use Rattle.leaders.proofs.leaders.leaders.Goals as goal
 
@@ -17,7 +17,3 @@ mark_all-requires c = (
   subst (λ (n : ℕ). Room (marking c.args.script) n) (sym (c.put.auto.s ∙ c.clear.auto.s)) c.requires.1,
   begun c.args.script (scratch_sized c.args.s.now c.requires.1) c.clear.ensures c.put.ensures c.requires.0.some_code,
 )
-
-pub returns : goal.returns
-returns c =
-    leads_from c.args.script (scratch_sized c.args.s.now c.requires.1) c.clear.ensures c.put.ensures c.mark_all.ensures
