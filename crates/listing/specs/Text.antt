@@ -1,6 +1,7 @@
--- What the functions of the listing do to the lent bytes, and what they answer.
+-- What is done to the lent bytes.
 use Rattle.std.specs.Prelude.{◌≡◌, List, ℕ, ◌+◌, ◌≤◌, length, take, drop, get_or}
 use Rattle.std.proofs.lemmas.List.Edits.{sets}
+use Rattle.listing.specs.declared.text.LentText.{LentText}
 use Rattle.listing.specs.Lines.{await_line, slots_at}
 
 -- a line at the front: its length is answered always, the line stands there if it fits, and what lies past it is as before
@@ -13,6 +14,11 @@ pub record Rendered (entry exit line : List ℕ) (r : ℕ) : Type 0 where
 pub record Puts (entry exit : List ℕ) (at : ℕ) (thing : List ℕ) (r : ℕ) : Type 0 where
   pub next : r ≡ at + length thing
   pub is : exit ≡ sets entry at thing
+
+-- a thing after what is written so far, in the same lent bytes
+pub record Writes (old new : LentText) (thing : List ℕ) : Type 0 where
+  pub lent : new.bytes.ghost_name ≡ old.bytes.ghost_name
+  pub puts : Puts old.bytes.now new.bytes.now old.at thing new.at
 
 -- an await's words, its instruction and w words of slots, stand in the sets from word `at` on
 pub record Held (v : List ℕ) (w at : ℕ) : Type 0 where

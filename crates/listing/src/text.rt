@@ -1,56 +1,48 @@
-// Bytes put into a lent buffer at a place. Each function answers the next place; a byte for which there is no room is not written.
-ghost use Rattle.std.specs.Prelude.{[], ◌∷◌, ◌++◌, ◌+◌, ◌≤◌, ◌^◌, length};
-ghost use Rattle.listing.specs.Lines.{decimal, spaced};
-ghost use Rattle.listing.specs.Text.{Puts};
+// Lent bytes that are written from the front on.
+ghost use Rattle.std.specs.Prelude.{◌≡◌, ◌+◌, ◌≤◌, ◌^◌, [], ◌∷◌, length};
 
-pub fn put(text: &mut [u8], at: usize, b: u8) -> usize
-    requires { at + 1 ≤ 2 ^ 40 }
-    ensures { Puts text.old text.new at (b ∷ []) result }
-{
-    if at < text.len() {
-        text[at] = b;
-        return at + 1;
+// How much is written so far. What is past the end of the bytes counts, and is kept nowhere.
+#[derive(Drop)]
+pub(crate) struct LentText<'a> {
+    pub(crate) bytes: &'a mut [u8],
+    pub(crate) at: usize,
+}
+
+impl LentText<'_> {
+    ghost use Rattle.listing.specs.Lines.{spaced};
+    ghost use Rattle.listing.specs.Text.{Writes};
+
+    // A byte.
+    fn byte(&mut self, byte: u8)
+        requires { self.old.at + 1 ≤ 2 ^ 40 }
+        ensures { Writes self.old self.new (byte ∷ []) }
+    {
+        // A proof knows what this stores, and not what is stored through `get_mut`.
+        if self.at < self.bytes.len() {
+            self.bytes[self.at] = byte;
+        }
+        self.at += 1;
     }
-    at + 1
-}
 
-pub fn put_all(text: &mut [u8], from: usize, word: &[u8]) -> usize
-    requires { from + length word.now ≤ 2 ^ 40 }
-    ensures { Puts text.old text.new from word.now result }
-{
-    let mut at = from;
-    let mut k = 0;
-    while k < word.len() {
-        at = put(text, at, word[k]);
-        k += 1;
+    // The bytes of a word.
+    pub(crate) fn word(&mut self, word: &str)
+        requires { self.old.at + length word.now ≤ 2 ^ 40 }
+        ensures writes { Writes self.old self.new word.now }
+        ensures at { self.new.at ≡ self.old.at + length word.now }
+    {
+        for byte in word.as_bytes() {
+            self.byte(*byte);
+        }
     }
-    at
-}
 
-// A number in decimal.
-pub fn put_number(text: &mut [u8], at: usize, n: u64) -> usize
-    requires { at + 20 ≤ 2 ^ 40 }
-    ensures { Puts text.old text.new at (decimal n) result }
-{
-    let mut digits = [0u8; 20];
-    let k = io::decimal(n, &mut digits);
-    put_all(text, at, &digits[..k])
-}
-
-// A space and a number.
-pub fn put_next(text: &mut [u8], at: usize, n: u64) -> usize
-    requires { at + 21 ≤ 2 ^ 40 }
-    ensures { Puts text.old text.new at (spaced (n ∷ [])) result }
-{
-    let next = put(text, at, b' ');
-    put_number(text, next, n)
-}
-
-// A word, a space and a number.
-pub fn put_field(text: &mut [u8], at: usize, word: &[u8], n: u64) -> usize
-    requires { at + length word.now + 21 ≤ 2 ^ 40 }
-    ensures { Puts text.old text.new at (word.now ++ spaced (n ∷ [])) result }
-{
-    let next = put_all(text, at, word);
-    put_next(text, next, n)
+    // A space and a number in decimal.
+    pub(crate) fn number(&mut self, n: u64)
+        requires { self.old.at + 21 ≤ 2 ^ 40 }
+        ensures writes { Writes self.old self.new (spaced (n ∷ [])) }
+        ensures short { self.new.at ≤ self.old.at + 21 }
+    {
+        let mut digits = itoa::Buffer::new();
+        self.word(" ");
+        self.word(digits.format(n));
+    }
 }

@@ -1,124 +1,61 @@
-// A call of `verify` or of `verify_within` on lent words that hold garbage.
-use crate::print;
-use crate::text::Request;
+// A call of `verify` or of `verify_within`.
+use crate::reply::Reply;
 use budget::{FlowBudget, Limits};
 use std::io;
 
-// Answers a request: at most 64 block records, 512 words of sets and 8,192 words of scratch.
-pub fn answer(rt: &impl Print, name: &[u8], sheet: &[u8], request: Request) -> io::Result<()> {
-    let mut blocks = [0u64; 384];
-    let mut sets = [0u64; 512];
-    let mut scratch = [0u64; 8192];
-    lend(
-        rt,
-        name,
-        sheet,
-        request,
-        &mut blocks,
-        &mut sets,
-        &mut scratch,
-    )
+// What is handed in. A call with limits is one of `verify_within`.
+#[derive(Clone, Copy)]
+pub struct Call<'a> {
+    pub sheet: &'a [u8],
+    pub budget: FlowBudget,
+    pub limits: Option<Limits>,
 }
 
-// Lends the start of each buffer, as long as is asked, if there is so much.
-fn lend(
-    rt: &impl Print,
-    name: &[u8],
-    sheet: &[u8],
-    request: Request,
-    blocks: &mut [u64],
-    sets: &mut [u64],
-    scratch: &mut [u64],
-) -> io::Result<()> {
-    let a = request.records;
-    let b = request.sets;
-    let c = request.scratch;
-    if a > blocks.len() / 6 {
-        return print::unread(rt, name);
-    }
-    if b > sets.len() {
-        return print::unread(rt, name);
-    }
-    if c > scratch.len() {
-        return print::unread(rt, name);
-    }
-    let words = 6 * a;
-    let budget = FlowBudget {
-        work: request.work,
-        retained: request.retained,
-    };
-    if request.within {
-        return run_within(
-            rt,
+// The words that are lent.
+pub struct Lent<'a> {
+    pub blocks: &'a mut [u64],
+    pub sets: &'a mut [u64],
+    pub scratch: &'a mut [u64],
+}
+
+impl Call<'_> {
+    // Calls on words that hold garbage, and prints what the call answers and leaves.
+    pub fn answer(self, rt: &impl Print, name: &str, lent: Lent) -> io::Result<()> {
+        let Lent {
+            blocks,
+            sets,
+            scratch,
+        } = lent;
+        garble(blocks);
+        garble(sets);
+        garble(scratch);
+        let (answer, limits) = match self.limits {
+            None => {
+                let a = flow::verify(self.sheet, self.budget, blocks, sets, scratch);
+                (a, None)
+            }
+            Some(limits) => {
+                let a = flow::verify_within(self.sheet, self.budget, limits, blocks, sets, scratch);
+                (a.answer, Some(a.limits))
+            }
+        };
+        let reply = Reply {
             name,
-            sheet,
-            budget,
-            request.limits,
-            &mut blocks[0..words],
-            &mut sets[0..b],
-            &mut scratch[0..c],
-        );
+            answer,
+            limits,
+            blocks,
+            sets,
+            scratch,
+        };
+        println!(rt; "{reply}")
     }
-    run(
-        rt,
-        name,
-        sheet,
-        budget,
-        &mut blocks[0..words],
-        &mut sets[0..b],
-        &mut scratch[0..c],
-    )
-}
-
-// Calls, and prints what the call answers and leaves.
-pub fn run(
-    rt: &impl Print,
-    name: &[u8],
-    sheet: &[u8],
-    budget: FlowBudget,
-    blocks: &mut [u64],
-    sets: &mut [u64],
-    scratch: &mut [u64],
-) -> io::Result<()> {
-    garble(blocks);
-    garble(sets);
-    garble(scratch);
-    let a = flow::verify(sheet, budget, blocks, sets, scratch);
-    print::answer(rt, name, a)?;
-    print::words(rt, blocks)?;
-    print::words(rt, sets)?;
-    print::end(rt, scratch)
-}
-
-// The same with limits.
-fn run_within(
-    rt: &impl Print,
-    name: &[u8],
-    sheet: &[u8],
-    budget: FlowBudget,
-    limits: Limits,
-    blocks: &mut [u64],
-    sets: &mut [u64],
-    scratch: &mut [u64],
-) -> io::Result<()> {
-    garble(blocks);
-    garble(sets);
-    garble(scratch);
-    let a = flow::verify_within(sheet, budget, limits, blocks, sets, scratch);
-    print::answer(rt, name, a.answer)?;
-    print::limits(rt, a.limits)?;
-    print::words(rt, blocks)?;
-    print::words(rt, sets)?;
-    print::end(rt, scratch)
 }
 
 // Fills words with garbage, another in each: multiples of an odd number.
 fn garble(words: &mut [u64]) {
-    let mut x = 11400714819323198485;
-    let mut i = 0;
-    while i < words.len() {
-        words[i] = x;
-        x = std::num::wrapping_add_u64(x, 11400714819323198485);
-        i += 1;
+    let mut garbage = 0u64;
+    for word in words {
+        garbage = garbage.wrapping_add(11400714819323198485);
+        *word = garbage;
     }
 }

@@ -11,133 +11,73 @@
 
 mod built;
 mod call;
-mod print;
-mod text;
+mod reply;
+mod request;
 
-ghost use Rattle.std.specs.Prelude.{◌≤◌, length, IfOk};
-
+use call::{Call, Lent};
+use request::Request;
 use std::io;
 use std::io::Read;
-use text::{Asked, Parsed, Request};
+
+// Input of more bytes is answered as one line that has no name.
+const MOST_BYTES: usize = 1048576;
 
 fn main(rt: HostRuntime) -> io::Result<()> {
-    let mut input = [0u8; 1048577];
-    answer_array(&rt, &mut input)
+    let mut room = [0; MOST_BYTES + 1];
+    answer_input(&rt, &mut room)
 }
 
-// Behind a reference the array's length is known without its bytes.
-fn answer_array(rt: &(impl Input + Print), input: &mut [u8; 1048577]) -> io::Result<()> {
-    answer_input(rt, input)
-}
-
-// Reads the input and answers it. One that fills all the room is too long.
-fn answer_input(rt: &(impl Input + Print), room: &mut [u8]) -> io::Result<()> {
-    let n = read_full(rt, room)?;
-    if n == room.len() {
-        return print::unread(rt, b"?");
+// Reads the input into the room, and answers it line by line. Behind a reference the array's length is known without its million bytes, which
+// the checker could not hold.
+fn answer_input(rt: &(impl Input + Print), room: &mut [u8; MOST_BYTES + 1]) -> io::Result<()> {
+    let mut input = rt.reader().take(room.len() as u64);
+    let n = io::copy(&mut input, &mut &mut room[..])? as usize;
+    if n > MOST_BYTES {
+        return println!(rt; "? ?");
     }
-    answer_all(rt, &room[..n])
-}
-
-// Reads until the buffer is full or the input ends, and answers how many bytes it put at the start of the buffer.
-fn read_full(rt: &impl Input, buffer: &mut [u8]) -> io::Result<usize>
-    ensures { IfOk result (λ n. n ≤ length buffer.new) }
-{
-    let mut input = rt.reader();
-    let mut done = 0;
-    while done < buffer.len() {
-        let n = input.read(&mut buffer[done..])?;
-        if n == 0 {
-            return Ok(done);
-        }
-        done += n;
-    }
-    Ok(done)
-}
-
-// Answers the lines of a text in order.
-fn answer_all(rt: &impl Print, input: &[u8]) -> io::Result<()> {
-    let mut at = 0;
-    while at < input.len() {
-        let end = text::line_end(input, at);
-        answer_line(rt, &input[at..end])?;
-        if end >= input.len() {
-            return Ok(());
-        }
-        at = end + 1;
+    for line in room[..n].split(|b| *b == b'\n') {
+        answer_line(rt, line)?;
     }
     Ok(())
 }
 
-// Answers one line, or skips it.
+// Answers one line, or skips it. No name begins with the word `within:`.
 fn answer_line(rt: &impl Print, line: &[u8]) -> io::Result<()> {
-    if line.len() == 0 {
+    if line.is_empty() || line.starts_with(b"#") {
         return Ok(());
     }
-    if line[0] == b'#' {
-        return Ok(());
-    }
-    let from = text::within_end(line);
-    if from > 0 {
-        return answer_within(rt, &line[from..]);
-    }
-    let n = text::name_end(line);
-    if n == 0 {
-        return print::unread(rt, b"?");
-    }
-    let name = &line[0..n];
-    if built::is_asked(name) {
-        return answer_built(rt, name, line, n);
-    }
-    answer_call(rt, name, line, n, false)
-}
-
-// What follows `within: `.
-fn answer_within(rt: &impl Print, line: &[u8]) -> io::Result<()> {
-    let n = text::name_end(line);
-    if n == 0 {
-        return print::unread(rt, b"?");
-    }
-    answer_call(rt, &line[0..n], line, n, true)
-}
-
-// `n-built BLOCKS`: a number and nothing after it.
-fn answer_built(rt: &impl Print, name: &[u8], line: &[u8], from: usize) -> io::Result<()> {
-    let Parsed::Number(blocks, at) = text::field(line, from) else {
-        return print::unread(rt, name);
+    let within = line.strip_prefix(b"within: ");
+    let mut parts = within.unwrap_or(line).splitn(2, |b| *b == b' ');
+    let Some(name) = parts.next().and_then(request::name) else {
+        return println!(rt; "? ?");
     };
-    if at < line.len() {
-        return print::unread(rt, name);
+    let text = parts.next().unwrap_or_default();
+    if name == "n-built" && within.is_none() {
+        return built::answer(rt, name, text);
     }
-    built::answer(rt, name, blocks as usize)
+    answer_request(rt, name, text, within.is_some())
 }
 
-// A call: numbers and the sheet.
-fn answer_call(
-    rt: &impl Print,
-    name: &[u8],
-    line: &[u8],
-    from: usize,
-    within: bool,
-) -> io::Result<()> {
-    let Asked::Call(request, at) = text::numbers(line, from, within) else {
-        return print::unread(rt, name);
+// Lends the start of each buffer, as long as is asked: at most 64 block records, 512 words of sets and 8,192 words of scratch.
+fn answer_request(rt: &impl Print, name: &str, text: &[u8], is_within: bool) -> io::Result<()> {
+    let mut sheet = [0; 4096];
+    let mut blocks = [0; 6 * 64];
+    let mut sets = [0; 512];
+    let mut scratch = [0; 8192];
+    let Some(request) = Request::read(text, is_within, &mut sheet) else {
+        return reply::unread(rt, name);
     };
-    let mut sheet = [0u8; 4096];
-    let n = text::sheet(line, at, &mut sheet);
-    answer_sheet(rt, name, &sheet, n, request)
-}
-
-// The sheet is the first `n` bytes; it was not read where there are not so many.
-fn answer_sheet(
-    rt: &impl Print,
-    name: &[u8],
-    sheet: &[u8],
-    n: usize,
-    request: Request,
-) -> io::Result<()> {
-    if n > sheet.len() {
-        return print::unread(rt, name);
-    }
-    call::answer(rt, name, &sheet[0..n], request)
+    let (Some(blocks), Some(sets), Some(scratch)) = (
+        blocks.get_mut(..request.records.saturating_mul(6)),
+        sets.get_mut(..request.sets),
+        scratch.get_mut(..request.scratch),
+    ) else {
+        return reply::unread(rt, name);
+    };
+    let lent = Lent {
+        blocks,
+        sets,
+        scratch,
+    };
+    request.call.answer(rt, name, lent)
 }
