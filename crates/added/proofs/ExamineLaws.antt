@@ -1,12 +1,13 @@
 -- `examine_asked`: what it does by what its calls do. Assumes nothing.
 use mathlib.Core.Path.{◌≡◌, refl, sym, ap, subst, ◌∙◌}
-use mathlib.Core.Bool.{Bool, true, false, not, ◌||◌, false≢true}
+use mathlib.Core.Bool.{Bool, true, false, ◌||◌, false≢true}
 use mathlib.Core.List.{List}
 use Prim.Native.Nat.{ℕ, ◌*◌, ◌≤◌}
 use native.Mathlib.Omega.{arith}
 use borrow.Author.Tests.{ltb-false}
 use lib.Dec.{ltb}
 use lib.ListN.{length}
+use Rattle.std.specs.Prelude.{Result, Ok, Err}
 use Rattle.dataflow.specs.Lists.{pick}
 use Rattle.budget.specs.declared.FlowBudget.{FlowBudget}
 use Rattle.budget.specs.declared.Limits.{Limits}
@@ -14,8 +15,7 @@ use Rattle.format.specs.declared.refusal.Refusal.{Refusal}
 use Rattle.format.specs.declared.refusal.Refusal.TheVariants.{NoSuchSlot, NoRoom}
 use Rattle.format.proofs.Or.{or_none}
 use Rattle.sheet.specs.declared.script.Script.{Script}
-use Rattle.sheet.specs.declared.script.Checked.{Checked}
-use Rattle.sheet.specs.declared.script.Checked.TheVariants as checking
+use Rattle.sheet.specs.declared.script.Refused as sheets
 use Rattle.sheet.specs.Decode.{parts_of}
 use Rattle.sheet.specs.Checks.{Checks}
 use Rattle.sheet.specs.Scripts.{script_of}
@@ -30,58 +30,38 @@ use Rattle.examine.specs.declared.Examined.TheVariants.{Refused}
 use Rattle.examine.specs.Examine.{outcome_in, Examines}
 use Rattle.examine.specs.Stages.{PassedAs, zeros}
 use Rattle.examine.proofs.ExamineLaws.{examines_refused}
-use Rattle.added.specs.declared.Tested.TheVariants.{Good, Bad}
 use Rattle.added.specs.Added.{width_of, strays, Taken}
 use Rattle.added.specs.Outcome.{judged_with, after_checks_with, outcome_with}
 use Rattle.added.specs.Examine.{tested_of, ExaminesWith, ExaminesAsked}
-use Rattle.added.proofs.OutcomeLaws.{pick_yes, pick_no, taken_outcome}
+use Rattle.added.proofs.OutcomeLaws.{taken_outcome}
 
 -- the sizes of a script that passed
 pub sound_here : (s : List ℕ) (x : Script) → PassedAs s x → Sound s x
-sound_here s x p = sound-checked s (checking.Passed x) x p refl
-
--- ---- the test of a set
+sound_here s x p = sound-checked s (Ok x) x p refl
 
 -- neither of two lengths is too short
 pub second_long : (a b c d : ℕ) → (ltb a b || ltb c d) ≡ false → d ≤ c
 second_long a b c d e = ltb-false c d (or_none (ltb a b) (ltb c d) e).1
 
-module _ (added : List ℕ) (x : Script) (k : ℕ) where
-  abbrev short : Bool
-  short = ltb k (4 * x.count) || ltb (length added) (width_of x.slots)
+-- ---- what the test of a set says
 
-  pub unasked : (asked : Bool) → not asked ≡ true → Good ≡ tested_of asked added x k
-  unasked true e = absurd (false≢true e)
-  unasked false e = refl
-
-  pub short_bad : (asked : Bool) → not asked ≡ false → short ≡ true → Bad NoRoom ≡ tested_of asked added x k
-  short_bad true e t = sym (pick_yes _ _ t)
-  short_bad false e t = absurd (false≢true (sym e))
-
-  pub stray_bad : (asked : Bool) → not asked ≡ false → short ≡ false → strays x.slots added ≡ true → Bad NoSuchSlot ≡ tested_of asked added x k
-  stray_bad true e t u = sym (pick_no _ _ t ∙ pick_yes _ _ u)
-  stray_bad false e t u = absurd (false≢true (sym e))
-
-  pub all_good : (asked : Bool) → not asked ≡ false → short ≡ false → strays x.slots added ≡ false → Good ≡ tested_of asked added x k
-  all_good true e t u = sym (pick_no _ _ t ∙ pick_no _ _ u)
-  all_good false e t u = absurd (false≢true (sym e))
-
--- ---- what the test says
+abbrev Test : Type 0
+Test = Result (Unit {0}) Refusal
 
 module _ (id : ℕ) (b : FlowBudget) where
-  bad-judged : (t u : Bool) (r : Refusal) (o : Outcome) → Bad r ≡ pick t (Bad NoRoom) (pick u (Bad NoSuchSlot) Good)
+  bad-judged : (t u : Bool) (r : Refusal) (o : Outcome) → ◌≡◌ {A = Test} (Err r) (pick t (Err NoRoom) (pick u (Err NoSuchSlot) (Ok tt)))
       → refused r id b ≡ pick t (refused NoRoom id b) (pick u (refused NoSuchSlot id b) o)
   bad-judged true u r o e = let q : r ≡ NoRoom = cc in ap (λ (z : Refusal). refused z id b) q
   bad-judged false true r o e = let q : r ≡ NoSuchSlot = cc in ap (λ (z : Refusal). refused z id b) q
   bad-judged false false r o e = let q : ◌≡◌ {A = ℕ} 0 1 = cc in absurd (omega arith)
 
-good-both : (t u : Bool) → Good ≡ pick t (Bad NoRoom) (pick u (Bad NoSuchSlot) Good) → (t ≡ false) × (u ≡ false)
+good-both : (t u : Bool) → ◌≡◌ {A = Test} (Ok tt) (pick t (Err NoRoom) (pick u (Err NoSuchSlot) (Ok tt))) → (t ≡ false) × (u ≡ false)
 good-both true u e = let q : ◌≡◌ {A = ℕ} 0 1 = cc in absurd (omega arith)
 good-both false true e = let q : ◌≡◌ {A = ℕ} 0 1 = cc in absurd (omega arith)
 good-both false false e = (refl, refl)
 
-bad-not_good : {r : Refusal} → Bad r ≡ Good → ⊥
-bad-not_good e = let q : ◌≡◌ {A = ℕ} 0 1 = cc in omega arith
+err-not_ok : {r : Refusal} → ◌≡◌ {A = Test} (Err r) (Ok tt) → ⊥
+err-not_ok e = let q : ◌≡◌ {A = ℕ} 0 1 = cc in omega arith
 
 module _ (s added : List ℕ) (l : Limits) (records : ℕ) (b : FlowBudget) (w v : List ℕ) where
   abbrev n : Lengths
@@ -97,16 +77,16 @@ module _ (s added : List ℕ) (l : Limits) (records : ℕ) (b : FlowBudget) (w v
   }
 
   -- the checks refuse
-  bad_sheet-with : (c : Checked) → Checks s c → (q : Refusal) (id : ℕ) (w' v' : List ℕ) (r : Examined) → c ≡ checking.Refused q id
-      → r ≡ Refused q id b → v' ≡ zeros v → ExaminesWith s added l records b w w' v v' r
+  bad_sheet-with : (c : Result Script sheets.Refused) → Checks s c → (e : sheets.Refused) (w' v' : List ℕ) (r : Examined) → c ≡ Err e
+      → r ≡ Refused e.why e.id b → v' ≡ zeros v → ExaminesWith s added l records b w w' v v' r
   unfolding outcome_with
-  bad_sheet-with c checks q id w' v' r ec = turned-away q id w' v' r (ap (after_checks_with s added l n b) (sym ec ∙ checks.answer))
+  bad_sheet-with c checks e w' v' r ec = turned-away e.why e.id w' v' r (ap (after_checks_with s added l n b) (sym ec ∙ checks.answer))
 
-  pub bad_sheet_asked : (asked : Bool) (c : Checked) → Checks s c → (q : Refusal) (id : ℕ) (w' v' : List ℕ) (r : Examined) → c ≡ checking.Refused q id
-      → r ≡ Refused q id b → v' ≡ zeros v → ExaminesAsked s added asked l records b w w' v v' r
-  bad_sheet_asked asked c checks q id w' v' r ec er ev = record {
-    tested = λ p. bad_sheet-with c checks q id w' v' r ec er ev;
-    untested = λ p. examines_refused s (parameter_with (parts_of s) added) l records b w v c checks q id w' v' r ec er ev;
+  pub bad_sheet_asked : (asked : Bool) (c : Result Script sheets.Refused) → Checks s c → (e : sheets.Refused) (w' v' : List ℕ) (r : Examined) → c ≡ Err e
+      → r ≡ Refused e.why e.id b → v' ≡ zeros v → ExaminesAsked s added asked l records b w w' v v' r
+  bad_sheet_asked asked c checks e w' v' r ec er ev = record {
+    tested = λ p. bad_sheet-with c checks e w' v' r ec er ev;
+    untested = λ p. examines_refused s (parameter_with (parts_of s) added) l records b w v c checks e w' v' r ec er ev;
   }
 
   -- they pass
@@ -119,17 +99,17 @@ module _ (s added : List ℕ) (l : Limits) (records : ℕ) (b : FlowBudget) (w v
     script-is = (passed s x (sym p.answer)).1
 
     -- the set is not taken
-    pub turned_away_asked : (asked : Bool) (q : Refusal) (w' v' : List ℕ) (r : Examined) → Bad q ≡ tested_of asked added x (length w)
+    pub turned_away_asked : (asked : Bool) (q : Refusal) (w' v' : List ℕ) (r : Examined) → Err q ≡ tested_of asked added x (length w)
         → r ≡ Refused q x.id b → v' ≡ zeros v → ExaminesAsked s added asked l records b w w' v v' r
     turned_away_asked true q w' v' r e er ev = record {
       tested = λ p. turned-away q x.id w' v' r
           (bad-judged x.id b (ltb (length w) (4 * x.count) || ltb (length added) (width_of x.slots)) (strays x.slots added) q _ e ∙ answer-is) er ev;
       untested = λ p. absurd (false≢true (sym p));
     }
-    turned_away_asked false q w' v' r e er ev = absurd (bad-not_good e)
+    turned_away_asked false q w' v' r e er ev = absurd (err-not_ok e)
 
     -- the script is judged
-    pub judged_asked : (asked : Bool) (w' v' : List ℕ) (r : Examined) → Good ≡ tested_of asked added x (length w)
+    pub judged_asked : (asked : Bool) (w' v' : List ℕ) (r : Examined) → Ok tt ≡ tested_of asked added x (length w)
         → Examines s (parameter_with (parts_of s) added) l records b w w' v v' r → ExaminesAsked s added asked l records b w w' v v' r
     judged_asked true w' v' r e h = record {
       tested = λ p.

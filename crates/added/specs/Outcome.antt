@@ -1,6 +1,6 @@
 -- What the call with an added set answers: request 6 with document 01's order for a lent set, "any lent slice too short is 10 ..; then a live bit at or
 -- above the slot count is 7".
-use Rattle.std.specs.Prelude.{◌≡◌, ◌||◌, List, ◌⊎◌, ◌↔◌, ℕ, ◌*◌, ◌≤◌, ◌<◌, ltb, length}
+use Rattle.std.specs.Prelude.{◌≡◌, ◌||◌, List, ◌⊎◌, ◌↔◌, ℕ, ◌*◌, ◌≤◌, ◌<◌, ltb, length, Result, Ok, Err}
 use Rattle.std.proofs.Math.Option.{none, some}
 use Rattle.dataflow.specs.Lists.{pick}
 use Rattle.budget.specs.declared.FlowBudget.{FlowBudget}
@@ -8,8 +8,7 @@ use Rattle.budget.specs.declared.Limits.{Limits}
 use Rattle.format.specs.declared.refusal.Refusal.{Refusal}
 use Rattle.format.specs.declared.refusal.Refusal.TheVariants.{NoSuchSlot, NoRoom}
 use Rattle.sheet.specs.declared.script.Script.{Script}
-use Rattle.sheet.specs.declared.script.Checked.{Checked}
-use Rattle.sheet.specs.declared.script.Checked.TheVariants as checking
+use Rattle.sheet.specs.declared.script.Refused.{Refused}
 use Rattle.sheet.specs.Decode.{parts_of, refusal, id_of}
 use Rattle.sheet.specs.Scripts.{script_of, checked_of}
 use Rattle.starts.specs.Starts.{parameter_with}
@@ -27,9 +26,9 @@ module _ (s added : List ℕ) (l : Limits) (n : Lengths) (b : FlowBudget) where
       (pick (strays x.slots added) (refused NoSuchSlot x.id b) (judged s (parameter_with (parts_of s) added) x l n b))
 
   -- the sheet checks first
-  abbrev pub after_checks_with : Checked → Outcome
-  after_checks_with (checking.Refused r id) = refused r id b
-  after_checks_with (checking.Passed x) = judged_with x
+  abbrev pub after_checks_with : Result Script Refused → Outcome
+  after_checks_with (Err e) = refused e.why e.id b
+  after_checks_with (Ok x) = judged_with x
 
   -- the answer
   unfoldable pub outcome_with : Outcome

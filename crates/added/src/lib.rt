@@ -3,21 +3,14 @@
 
 ghost use Rattle.std.specs.Prelude.{◌≡◌, ◌≤◌, length};
 ghost use Rattle.budget.specs.Budget.{counted};
-ghost use Rattle.examine.specs.Stages.{PassedAs, zeros};
+ghost use Rattle.examine.specs.Stages.{PassedAs};
 ghost use Rattle.added.specs.Added.{width_of, strays};
 ghost use Rattle.added.specs.Examine.{tested_of, ExaminesWith, ExaminesAsked};
 
 use budget::{FlowBudget, Limits};
-use examine::{Examined, clear};
+use examine::Examined;
 use format::refusal::Refusal;
-use sheet::script::{Checked, Script};
-
-// Whether an added set is taken, or why it is not.
-#[derive(Clone, Copy)]
-pub enum Tested {
-    Good,
-    Bad(Refusal),
-}
+use sheet::script::Script;
 
 // The sheet checks; then 10 if scratch or `added` is too short; then 7 if a bit of its words that the slots take is no slot; then the judging, with
 // the added slots as parameters beside the sheet's own. `added` is only read, and words past those are not looked at.
@@ -50,10 +43,8 @@ pub fn examine_asked(
     ensures { ExaminesAsked sheet.now added.now asked (counted limits) records budget s.old s.new t.old t.new result }
 {
     match sheet::check(sheet) {
-        Checked::Refused(r, id) => refuse(t, r, id, budget),
-        Checked::Passed(script) => {
-            passed_asked(sheet, script, added, asked, limits, s, t, records, budget)
-        }
+        Err(e) => examine::refuse(t, e.why, e.id, budget),
+        Ok(script) => passed_asked(sheet, script, added, asked, limits, s, t, records, budget),
     }
 }
 
@@ -73,34 +64,26 @@ fn passed_asked(
     ensures { ExaminesAsked sheet.now added.now asked (counted limits) records budget s.old s.new t.old t.new result }
 {
     match test(added, asked, script, s.len()) {
-        Tested::Bad(r) => refuse(t, r, script.id, budget),
-        Tested::Good => examine::passed(sheet, script, added, limits, budget, s, t, records),
+        Err(why) => examine::refuse(t, why, script.id, budget),
+        Ok(()) => examine::passed(sheet, script, added, limits, budget, s, t, records),
     }
 }
 
-// A refusal; the sets buffer is cleared.
-fn refuse(t: &mut [u64], r: Refusal, id: u32, left: FlowBudget) -> Examined
-    ensures { (result ≡ Examined.Refused r id left) × (t.new ≡ zeros t.old) }
-{
-    clear::clear(t);
-    Examined::Refused(r, id, left)
-}
-
-// The early 10, then 7, if they are asked for.
-fn test(added: &[u64], asked: bool, script: Script, scratch: usize) -> Tested
+// Whether an added set is taken, or why it is not: the early 10, then 7, if they are asked for.
+fn test(added: &[u64], asked: bool, script: Script, scratch: usize) -> Result<(), Refusal>
     requires { (script.count ≤ 65536) × (script.slots ≤ 65536) }
     ensures { result ≡ tested_of asked added.now script scratch }
 {
     if !asked {
-        return Tested::Good;
+        return Ok(());
     }
-    if (scratch < 4 * script.count) | (added.len() < (script.slots + 63) / 64) {
-        return Tested::Bad(Refusal::NoRoom);
+    if scratch < 4 * script.count || added.len() < script.slots.div_ceil(64) {
+        return Err(Refusal::NoRoom);
     }
     if has_stray(added, script.slots) {
-        return Tested::Bad(Refusal::NoSuchSlot);
+        return Err(Refusal::NoSuchSlot);
     }
-    Tested::Good
+    Ok(())
 }
 
 // Whether a bit of the words that so many slots take is no slot: only the last of these words can have one.

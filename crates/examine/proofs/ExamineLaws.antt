@@ -7,13 +7,13 @@ use native.Mathlib.Nat.{mul-le-mul_right}
 use native.Mathlib.Omega.{arith}
 use lib.ListN.{length, get_or, take, replicate}
 use lib.Seq.{length-take-le}
+use Rattle.std.specs.Prelude.{Result, Ok, Err}
 use Rattle.budget.specs.declared.FlowBudget.{FlowBudget}
 use Rattle.budget.specs.declared.Limits.{Limits}
 use Rattle.format.specs.declared.refusal.Refusal.{Refusal}
 use Rattle.sizes.specs.declared.Layout.{Layout}
 use Rattle.sheet.specs.declared.script.Script.{Script}
-use Rattle.sheet.specs.declared.script.Checked.{Checked}
-use Rattle.sheet.specs.declared.script.Checked.TheVariants as checking
+use Rattle.sheet.specs.declared.script.Refused as sheets
 use Rattle.sheet.specs.Decode.{parts_of}
 use Rattle.sheet.specs.Checks.{Checks}
 use Rattle.sheet.specs.Scripts.{script_of}
@@ -81,19 +81,19 @@ outcome-same : (id : ℕ) (j : Judged) → outcome_in (examined_by id j) ≡ out
 outcome-same id (judging.Accepted y n b) = refl
 outcome-same id (judging.Refused r b) = refl
 
-module _ (s : List ℕ) (parameter : ℕ → Bool) (l : Limits) (records : ℕ) (b : FlowBudget) (w v : List ℕ) (c : Checked) (checks : Checks s c) where
+module _ (s : List ℕ) (parameter : ℕ → Bool) (l : Limits) (records : ℕ) (b : FlowBudget) (w v : List ℕ) (c : Result Script sheets.Refused) (checks : Checks s c) where
   -- the checks refuse
-  pub examines_refused : (q : Refusal) (id : ℕ) (w' v' : List ℕ) (r : Examined) → c ≡ checking.Refused q id → r ≡ Refused q id b
+  pub examines_refused : (e : sheets.Refused) (w' v' : List ℕ) (r : Examined) → c ≡ Err e → r ≡ Refused e.why e.id b
       → v' ≡ zeros v → Examines s parameter l records b w w' v v' r
   unfolding outcome_of
-  examines_refused q id w' v' r ec er ev = record {
+  examines_refused e w' v' r ec er ev = record {
     answer = ap outcome_in er ∙ ap (after_checks s parameter l (lengths_with w v records) b) (sym ec ∙ checks.answer);
     sets = ev ∙ ap (λ (z : Examined). sets_after s parameter (lengths_with w v records) (outcome_in z)) (sym er);
     listing = λ i y awaits z e. let o : ◌≡◌ {A = ℕ} 0 1 = cc in absurd (omega arith);
   }
 
   -- they pass, and the script is judged
-  module _ (x : Script) (ec : c ≡ checking.Passed x) where
+  module _ (x : Script) (ec : c ≡ Ok x) where
     pub sound_here : Sound s x
     sound_here = sound-checked s c x checks ec
 

@@ -1,12 +1,11 @@
 -- How `examine` ends: the answer of the judging with the function's id, and the sets buffer as it is left.
-use Rattle.std.specs.Prelude.{◌≡◌, List, ◌++◌, ℕ, ◌-◌, ◌≤◌, length, take, replicate}
+use Rattle.std.specs.Prelude.{◌≡◌, List, ◌++◌, ℕ, ◌-◌, ◌≤◌, length, take, replicate, Ok}
 use Rattle.budget.specs.declared.FlowBudget.{FlowBudget}
 use Rattle.format.specs.declared.refusal.Refusal.{Refusal}
 use Rattle.sizes.specs.declared.Layout.{Layout}
 use Rattle.sizes.specs.Sizes.{answer_words}
 use Rattle.memory.specs.Sets.{SetsRoom}
 use Rattle.sheet.specs.declared.script.Script.{Script}
-use Rattle.sheet.specs.declared.script.Checked.TheVariants as checking
 use Rattle.sheet.specs.Checks.{Checks}
 use Rattle.judge.specs.declared.Judged.{Judged}
 use Rattle.judge.specs.declared.Judged.TheVariants as judging
@@ -15,7 +14,7 @@ use Rattle.examine.specs.declared.Examined.TheVariants.{Accepted, Refused}
 
 -- a sheet passed the checks as this script
 abbrev pub PassedAs : List ℕ → Script → Type 0
-PassedAs s x = Checks s (checking.Passed x)
+PassedAs s x = Checks s (Ok x)
 
 -- as many zeros as there are words
 abbrev pub zeros : List ℕ → List ℕ

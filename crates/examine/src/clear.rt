@@ -5,7 +5,7 @@ ghost use Rattle.std.specs.Prelude.{◌≡◌, ◌++◌, ◌-◌, ◌≤◌, len
 pub fn clear(words: &mut [u64])
     ensures { words.new ≡ replicate (length words.old) 0 }
 {
-    clear_from(words, 0);
+    words.fill(0);
 }
 
 // From word `at` on.
@@ -13,5 +13,5 @@ pub fn clear_from(words: &mut [u64], at: usize)
     requires { at ≤ length words.old }
     ensures { words.new ≡ take at words.old ++ replicate (length words.old - at) 0 }
 {
-    bitset::fill(words, at, words.len() - at, 0);
+    words[at..].fill(0);
 }

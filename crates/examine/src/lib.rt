@@ -14,7 +14,7 @@ ghost use Rattle.sizes.specs.Sizes.{answer_words};
 use budget::{FlowBudget, Limits};
 use format::refusal::Refusal;
 use judge::Judged;
-use sheet::script::{Checked, Script};
+use sheet::script::Script;
 use sizes::Layout;
 
 // Accepted with the function's id, the layout of scratch, how many awaits are reached, and the budget; or refused with the id and the budget.
@@ -39,8 +39,8 @@ pub fn examine(
     ensures { Examines sheet.now (parameter_with (parts_of sheet.now) added.now) (counted limits) records budget s.old s.new t.old t.new result }
 {
     match sheet::check(sheet) {
-        Checked::Refused(r, id) => refuse(t, r, id, budget),
-        Checked::Passed(script) => passed(sheet, script, added, limits, budget, s, t, records),
+        Err(e) => refuse(t, e.why, e.id, budget),
+        Ok(script) => passed(sheet, script, added, limits, budget, s, t, records),
     }
 }
 
@@ -83,8 +83,8 @@ fn accept(t: &mut [u64], id: u32, y: Layout, awaits: usize, left: FlowBudget) ->
     Examined::Accepted(id, y, awaits, left)
 }
 
-// The sets buffer is cleared.
-fn refuse(t: &mut [u64], r: Refusal, id: u32, left: FlowBudget) -> Examined
+// A refusal; the sets buffer is cleared.
+pub fn refuse(t: &mut [u64], r: Refusal, id: u32, left: FlowBudget) -> Examined
     ensures { (result ≡ Examined.Refused r id left) × (t.new ≡ zeros t.old) }
 {
     clear::clear(t);

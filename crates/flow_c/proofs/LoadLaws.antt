@@ -9,6 +9,7 @@ use native.Mathlib.Omega.{arith}
 use borrow.Author.Tests.{ltb-false, le-ltb}
 use lib.Dec.{ltb}
 use lib.ListN.{length}
+use Rattle.std.specs.Prelude.{Result, Ok, Err}
 use Rattle.dataflow.specs.Lists.{pick}
 use Rattle.dataflow.proofs.Bools.{or_no_left, or_no_right}
 use Rattle.budget.specs.declared.FlowBudget.{FlowBudget}
@@ -30,7 +31,8 @@ use Rattle.demands.specs.Table.{Due, layout, bad_sheet, no_room_early, no_room, 
 use Rattle.demands.proofs.TableLaws as tables
 use Rattle.block_records.specs.declared.Block.{Block}
 use Rattle.flow_blocks.specs.BlocksVerify.{lengths_of}
-use Rattle.load.specs.declared.Loaded.TheVariants.{Is, Refused}
+use Rattle.sheet.specs.declared.script.Refused.{Refused}
+use Rattle.load.specs.declared.Loaded.{Loaded}
 use Rattle.load.specs.Load.{words_needed, saturated, load_of, loaded_by, loaded_of}
 use Rattle.flow_c.specs.declared.FlowAnswer.{FlowAnswer}
 use Rattle.flow_c.specs.declared.LoadAnswer.{LoadAnswer}
@@ -79,13 +81,13 @@ module _ (s : List ℕ) (parameter : ℕ → Bool) (l : Limits) (n : Lengths) (b
 
   -- the load of an accepted script's answer, of any words that are as many as were lent
   pub accepted_loads : {id blocks awaits : ℕ} {left : FlowBudget} → outcome_of s parameter l n b ≡ accepted id blocks awaits left
-      → (v : List ℕ) → n.sets ≤ length v → loaded_of s v blocks awaits ≡ Is id (saturated (load_of (parts_of s) v blocks awaits))
+      → (v : List ℕ) → n.sets ≤ length v → loaded_of s v blocks awaits ≡ Ok (record { id = id; load = saturated (load_of (parts_of s) v blocks awaits) })
   unfolding loaded_of
   accepted_loads {id} {blocks} {awaits} {left} e v h =
       let r : Roomy (accepted id blocks awaits left) = due-roomy (accepted id blocks awaits left) ((tables.table s parameter l n b (accepted id blocks awaits left)).1 e) in
       let t : ltb (length v) (words_needed (parts_of s) blocks awaits) ≡ false = le-ltb (length v) (words_needed (parts_of s) blocks awaits) (omega (arith, r.2)) in
       ap (λ (o : Option Refusal). loaded_by o s v blocks awaits) r.0
-      ∙ ap₂ (λ (c : Bool) (i : ℕ). pick c (Refused NoRoom i) (Is i (saturated (load_of (parts_of s) v blocks awaits)))) t (sym r.1)
+      ∙ ap₂ (λ (c : Bool) (i : ℕ). pick {A = Result Loaded Refused} c (Err (record { why = NoRoom; id = i })) (Ok (record { id = i; load = saturated (load_of (parts_of s) v blocks awaits) }))) t (sym r.1)
 
 -- so of two exported calls, one after the other, under any limits as they count
 pub host-loads-under : {s : List ℕ} {l : Limits} {b : FlowBudget} {list list' : List Block} {v v' w w' : List ℕ} {r : FlowAnswer}

@@ -1,5 +1,5 @@
 -- The contracts of the exported calls: the answer as document 01 numbers it, and what each lent buffer holds; and the load of such an answer.
-use Rattle.std.specs.Prelude.{◌≡◌, ◌↔◌, List, ℕ}
+use Rattle.std.specs.Prelude.{◌≡◌, ◌↔◌, List, ℕ, Result, Ok, Err}
 use Rattle.budget.specs.declared.FlowBudget.{FlowBudget}
 use Rattle.budget.specs.Budget.{todays}
 use Rattle.format.specs.Refusals.{number_of}
@@ -8,8 +8,8 @@ use Rattle.script.specs.Script.{parameter_in}
 use Rattle.outcome.specs.Outcome.{Outcome, accepted, refused, outcome_of}
 use Rattle.demands.specs.Table.{Due}
 use Rattle.block_records.specs.declared.Block.{Block}
+use Rattle.sheet.specs.declared.script.Refused.{Refused}
 use Rattle.load.specs.declared.Loaded.{Loaded}
-use Rattle.load.specs.declared.Loaded.TheVariants as loading
 use Rattle.load.specs.Load.{loaded_of}
 use Rattle.answers.specs.Answers.{Verified}
 use Rattle.flow_blocks.specs.BlocksVerify.{blocks_after, lengths_of}
@@ -56,9 +56,9 @@ pub record HostVerified (s : List ℕ) (b : FlowBudget) (list list' : List Block
   pub blocks : list' ≡ blocks_after s (lengths_of list v w) (defined_outcome s b list v w)
 
 -- a load in numbers: 0 with the load; else the refusal's number with load 0; both with the function id
-abbrev pub load_answer_of : Loaded → LoadAnswer
-load_answer_of (loading.Is id load) = record { number = 0; function = id; load = load }
-load_answer_of (loading.Refused r id) = record { number = number_of r; function = id; load = 0 }
+abbrev pub load_answer_of : Result Loaded Refused → LoadAnswer
+load_answer_of (Ok x) = record { number = 0; function = x.id; load = x.load }
+load_answer_of (Err e) = record { number = number_of e.why; function = e.id; load = 0 }
 
 -- the load of an answer on the sheet s with so many blocks and awaits, whose sets are the words v
 abbrev pub host_load : List ℕ → List ℕ → ℕ → ℕ → LoadAnswer

@@ -11,6 +11,7 @@ use answers::{Answer, AnswerWithin};
 use block_records::Block;
 use budget::{FlowBudget, Limits};
 use load::Loaded;
+use sheet::script::Refused;
 
 // Work charged and bytes retained so far.
 #[repr(C)]
@@ -102,18 +103,18 @@ pub extern "C" fn kagari_flow_load(
     load_answer_of(load::load(sheet, sets, blocks as usize, awaits as usize))
 }
 
-fn load_answer_of(a: Loaded) -> LoadAnswer
+fn load_answer_of(a: Result<Loaded, Refused>) -> LoadAnswer
     ensures { result ≡ load_answer_of a }
 {
     match a {
-        Loaded::Is(id, total) => LoadAnswer {
+        Ok(loaded) => LoadAnswer {
             number: 0,
-            function: id,
-            load: total,
+            function: loaded.id,
+            load: loaded.load,
         },
-        Loaded::Refused(r, id) => LoadAnswer {
-            number: r.number() as u32,
-            function: id,
+        Err(e) => LoadAnswer {
+            number: e.why.number() as u32,
+            function: e.id,
             load: 0,
         },
     }

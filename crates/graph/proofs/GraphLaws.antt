@@ -2,9 +2,11 @@
 use mathlib.Core.Path.{◌≡◌, refl, sym, ap, subst, ◌∙◌}
 use mathlib.Core.Bool.{Bool}
 use mathlib.Core.List.{List, ◌++◌}
-use Prim.Native.Nat.{ℕ, ◌+◌, ◌≤◌, ◌<◌}
+use Prim.Native.Nat.{ℕ, ◌+◌, ◌-◌, ◌≤◌, ◌<◌}
 use native.Mathlib.Omega.{arith}
-use lib.ListN.{length, take}
+use lib.ListN.{length, take, drop, length-drop}
+use Rattle.std.proofs.lemmas.List.{length-take-le, drop-drop}
+use borrow.Rule.Slice.PartMut.{put_mid}
 use Rattle.bitset.specs.Rows.{patched}
 use Rattle.bitset.specs.Sets.{member}
 use Rattle.dataflow.specs.Code.{block_successors}
@@ -58,10 +60,20 @@ module _ (y : Layout) (w : List ℕ) (room : Room y (length w)) {k base n : ℕ}
   pub row_inside : base + y.words ≤ length w
   row_inside = lies_fits row-there
 
-  -- it is stored
-  pub row_stored : (row w' : List ℕ) → length row ≡ y.words → w' ≡ patched w base row → scratch y w' ≡ store_cell (scratch y w) n row
-  unfolding scratch
-  row_stored row w' long e = lies_patched row-there row long e ∙ ap (λ (i : ℕ). store_cell (scratch y w) i row) ek
+  -- it is as wide as asked where it is lent
+  pub row_size : length (take (base + y.words - base) (drop base w)) ≡ y.words
+  row_size =
+      let q : base + y.words - base ≡ y.words = omega arith in
+      rw q (length-take-le y.words (drop base w) (omega (arith, length-drop base w, row_inside)))
+
+  -- with other words in its place it is stored
+  pub row_stored : (row : List ℕ) → length row ≡ y.words → scratch y (put_mid base (base + y.words - base) w row) ≡ store_cell (scratch y w) n row
+  unfolding scratch patched
+  row_stored row long =
+      let q : base + y.words - base ≡ length row = omega (arith, long) in
+      let e : put_mid base (base + y.words - base) w row ≡ patched w base row =
+      ap (λ (l : List ℕ). take base w ++ (row ++ l)) (ap (λ (m : ℕ). drop m (drop base w)) q ∙ drop-drop (length row) base w) in
+      lies_patched row-there row long e ∙ ap (λ (i : ℕ). store_cell (scratch y w) i row) ek
 
 -- that of the parameters
 pub parameters-row : (y : Layout) → Row y (parameters_row y.blocks)

@@ -80,8 +80,7 @@ fn parameters(sheet: &[u8], added: &[u64], s: &mut [u64], script: Script, y: Lay
     ensures { Parameters (parameter_with (parts_of sheet.now) added.now) y (scratch y s.old) (scratch y s.new) }
 {
     let base = layout::scratch_start(y, layout::parameters(y));
-    let w = y.words;
-    starts::insert_all(sheet, script, added, s, base, w);
+    starts::insert_all(sheet, script, added, &mut s[base..base + y.words]);
 }
 
 // Which blocks a path from block 0 reaches.

@@ -94,8 +94,7 @@ fn hosts(sheet: &[u8], s: &mut [u64], script: Script, y: Layout)
     ensures { scratch y s.new ≡ store_cell (scratch y s.old) (hosts_row y.blocks) (host_row (parts_of sheet.now) y.words) }
 {
     let base = layout::scratch_start(y, layout::hosts(y));
-    let w = y.words;
-    sets::insert_hosts(sheet, script, s, base, w);
+    sets::insert_hosts(sheet, script, &mut s[base..base + y.words]);
 }
 
 // A refusal of `graph` as that of the whole.

@@ -6,12 +6,13 @@ use mathlib.Core.List.{List}
 use Prim.Native.Nat.{ℕ, ◌*◌}
 use native.Mathlib.Omega.{arith}
 use lib.Dec.{ltb}
+use Rattle.std.specs.Prelude.{Result, Ok, Err}
 use Rattle.dataflow.specs.Lists.{pick}
 use Rattle.dataflow.specs.Charges.{fixed_points_charges}
 use Rattle.budget.specs.declared.FlowBudget.{FlowBudget}
 use Rattle.budget.specs.declared.Limits.{Limits}
 use Rattle.budget.specs.declared.Charged.{Charged}
-use Rattle.budget.specs.declared.Charged.TheVariants.{Ok, Over}
+use Rattle.budget.specs.declared.Charged.TheVariants as charging
 use Rattle.budget.specs.Budget.{NowhereLower, charged}
 use Rattle.budget.proofs.LimitLaws.{charged_higher}
 use Rattle.format.specs.declared.refusal.Refusal.{Refusal}
@@ -23,8 +24,7 @@ use Rattle.sizes.specs.declared.Staged.TheVariants as staging
 use Rattle.sizes.specs.Stages.{graph_of}
 use Rattle.sizes.proofs.LimitLaws.{graph_higher}
 use Rattle.sheet.specs.declared.script.Script.{Script}
-use Rattle.sheet.specs.declared.script.Checked.{Checked}
-use Rattle.sheet.specs.declared.script.Checked.TheVariants as checking
+use Rattle.sheet.specs.declared.script.Refused.{Refused}
 use Rattle.sheet.specs.Decode.{parts_of}
 use Rattle.sheet.specs.Scripts.{checked_of}
 use Rattle.script.specs.Script.{flow_code, host_in}
@@ -58,8 +58,8 @@ module _ (s : List ℕ) (parameter : ℕ → Bool) (l h : Limits) (le : NowhereL
       where
         go : (c : Charged) → charged l b (fixed_points_charges (flow_code (parts_of s)) parameter y.words) ≡ c → Is (after_rounds s parameter x l y c)
             → Is (after_rounds s parameter x h y (charged h b (fixed_points_charges (flow_code (parts_of s)) parameter y.words)))
-        go (Over z) q e = absurd (refused-not_accepted e)
-        go (Ok z) q e =
+        go (charging.Over z) q e = absurd (refused-not_accepted e)
+        go (charging.Ok z) q e =
             ap (after_rounds s parameter x h y) (charged_higher l h le b z (fixed_points_charges (flow_code (parts_of s)) parameter y.words) q) ∙ rounds y z e
 
     stages : (lent : Lent) (n : ℕ) (b : FlowBudget) → Is (after_graph s parameter x l (graph_of (flow_code (parts_of s)) x l lent n b))
@@ -87,6 +87,6 @@ module _ (s : List ℕ) (parameter : ℕ → Bool) (l h : Limits) (le : NowhereL
   unfolding outcome_of
   accepted_higher n b e = go (checked_of s) e
     where
-      go : (c : Checked) → Is (after_checks s parameter l n b c) → Is (after_checks s parameter h n b c)
-      go (checking.Refused r i) e = absurd (refused-not_accepted e)
-      go (checking.Passed x) e = judging x n b e
+      go : (c : Result Script Refused) → Is (after_checks s parameter l n b c) → Is (after_checks s parameter h n b c)
+      go (Err r) e = absurd (refused-not_accepted e)
+      go (Ok x) e = judging x n b e

@@ -1,18 +1,17 @@
 -- What the call that checks a sheet answers: document 01's refusal table with its last paragraph, from the bytes, the set of parameters,
 -- the limits, the lengths of the lent buffers, and the budget.
-use Rattle.std.specs.Prelude.{Bool, List, ℕ, ◌*◌, ltb, length}
+use Rattle.std.specs.Prelude.{Bool, List, ℕ, ◌*◌, ltb, length, Result, Ok, Err}
 use Rattle.dataflow.specs.Lists.{pick}
 use Rattle.budget.specs.declared.FlowBudget.{FlowBudget}
 use Rattle.budget.specs.declared.Limits.{Limits}
 use Rattle.budget.specs.declared.Charged.{Charged}
-use Rattle.budget.specs.declared.Charged.TheVariants.{Ok, Over}
+use Rattle.budget.specs.declared.Charged.TheVariants as charging
 use Rattle.budget.specs.Budget.{charged}
 use Rattle.format.specs.declared.refusal.Refusal.{Refusal}
 use Rattle.format.specs.declared.refusal.Refusal.TheVariants.{NoRoom, WorkLimit}
 use Rattle.sizes.specs.declared.Layout.{Layout}
 use Rattle.sheet.specs.declared.script.Script.{Script}
-use Rattle.sheet.specs.declared.script.Checked.{Checked}
-use Rattle.sheet.specs.declared.script.Checked.TheVariants as checking
+use Rattle.sheet.specs.declared.script.Refused.{Refused}
 use Rattle.sheet.specs.Decode.{parts_of}
 use Rattle.sheet.specs.Scripts.{checked_of}
 use Rattle.script.specs.Script.{flow_code, host_in}
@@ -46,8 +45,8 @@ module _ (s : List ℕ) (parameter : ℕ → Bool) (x : Script) (l : Limits) whe
 
   -- `fixed_points`, then `check_points`
   abbrev pub after_rounds : Layout → Charged → Outcome
-  after_rounds y (Over b) = refused WorkLimit x.id b
-  after_rounds y (Ok b) =
+  after_rounds y (charging.Over b) = refused WorkLimit x.id b
+  after_rounds y (charging.Ok b) =
       after_points y (points_run (flow_code (parts_of s)) parameter l y.words x.slots (host_in (parts_of s)) b)
 
   -- `graph` and `reachability`, then the rest
@@ -61,9 +60,9 @@ module _ (s : List ℕ) (parameter : ℕ → Bool) (x : Script) (l : Limits) whe
       (after_graph (graph_of (flow_code (parts_of s)) x l (record { sets = n.sets; records = n.records }) n.scratch b))
 
 -- the sheet checks first; "as given for 1 to 9 and the early 10"
-abbrev pub after_checks : List ℕ → (ℕ → Bool) → Limits → Lengths → FlowBudget → Checked → Outcome
-after_checks s parameter l n b (checking.Refused r id) = refused r id b
-after_checks s parameter l n b (checking.Passed x) = judged s parameter x l n b
+abbrev pub after_checks : List ℕ → (ℕ → Bool) → Limits → Lengths → FlowBudget → Result Script Refused → Outcome
+after_checks s parameter l n b (Err e) = refused e.why e.id b
+after_checks s parameter l n b (Ok x) = judged s parameter x l n b
 
 -- the answer
 unfoldable pub outcome_of : List ℕ → (ℕ → Bool) → Limits → Lengths → FlowBudget → Outcome

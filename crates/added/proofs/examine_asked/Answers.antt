@@ -7,12 +7,12 @@ use Rattle.added.proofs.examine_asked.Goals as goal
 
 pub passed_asked-requires : goal.passed_asked-requires
 passed_asked-requires c =
-    subst (Checks c.args.sheet.now) c.in-Passed.is c.check.ensures
+    subst (Checks c.args.sheet.now) c.in-Ok.is c.check.ensures
 
-pub returns-in-Refused : goal.returns-in-Refused
-returns-in-Refused c =
+pub returns-in-Err : goal.returns-in-Err
+returns-in-Err c =
     let a = c.args in
-    bad_sheet_asked a.sheet.now a.added.now (counted a.limits) a.records a.budget a.s.now a.t.now a.asked _ c.check.ensures _ _ _ _ _ c.in-Refused.is c.refuse.ensures.0 c.refuse.ensures.1
+    bad_sheet_asked a.sheet.now a.added.now (counted a.limits) a.records a.budget a.s.now a.t.now a.asked _ c.check.ensures _ _ _ _ c.in-Err.is c.refuse.ensures.0 c.refuse.ensures.1
 
-pub returns-in-Passed : goal.returns-in-Passed
-returns-in-Passed c = c.passed_asked.ensures
+pub returns-in-Ok : goal.returns-in-Ok
+returns-in-Ok c = c.passed_asked.ensures

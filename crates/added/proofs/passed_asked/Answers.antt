@@ -9,14 +9,14 @@ test-requires c =
     let a = c.args in
     let z = sound_here a.sheet.now a.script c.requires in (z.few_code, z.few_slots)
 
-pub returns-in-Bad : goal.returns-in-Bad
-returns-in-Bad c =
+pub returns-in-Err : goal.returns-in-Err
+returns-in-Err c =
     let a = c.args in
     turned_away_asked a.sheet.now a.added.now (counted a.limits) a.records a.budget a.s.now a.t.now a.script c.requires
-    a.asked _ _ _ _ (sym c.in-Bad.is ∙ c.test.ensures) c.refuse.ensures.0 c.refuse.ensures.1
+    a.asked _ _ _ _ (sym c.in-Err.is ∙ c.test.ensures) c.refuse.ensures.0 c.refuse.ensures.1
 
-pub returns-in-Good : goal.returns-in-Good
-returns-in-Good c =
+pub returns-in-Ok : goal.returns-in-Ok
+returns-in-Ok c =
     let a = c.args in
     judged_asked a.sheet.now a.added.now (counted a.limits) a.records a.budget a.s.now a.t.now a.script c.requires
-    a.asked _ _ _ (sym c.in-Good.is ∙ c.test.ensures) c.passed.ensures
+    a.asked _ _ _ (sym c.in-Ok.is ∙ c.test.ensures) c.passed.ensures

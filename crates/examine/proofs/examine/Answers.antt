@@ -9,14 +9,14 @@ use Rattle.examine.proofs.examine.Goals as goal
 
 pub passed-requires : goal.passed-requires
 passed-requires c =
-    subst (Checks c.args.sheet.now) c.in-Passed.is c.check.ensures
+    subst (Checks c.args.sheet.now) c.in-Ok.is c.check.ensures
 
-pub returns-in-Refused : goal.returns-in-Refused
-returns-in-Refused c =
+pub returns-in-Err : goal.returns-in-Err
+returns-in-Err c =
     let a = c.args in
     examines_refused a.sheet.now (parameter_with (parts_of a.sheet.now) a.added.now) (counted a.limits) a.records a.budget
-    a.s.now a.t.now _ c.check.ensures _ _ _ _ _ c.in-Refused.is c.refuse.ensures.0 c.refuse.ensures.1
+    a.s.now a.t.now _ c.check.ensures _ _ _ _ c.in-Err.is c.refuse.ensures.0 c.refuse.ensures.1
 
-pub returns-in-Passed : goal.returns-in-Passed
-returns-in-Passed c =
+pub returns-in-Ok : goal.returns-in-Ok
+returns-in-Ok c =
     c.passed.ensures

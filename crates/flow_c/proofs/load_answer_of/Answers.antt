@@ -11,12 +11,12 @@ refusedWith n id = record { number = n; function = id; load = 0 }
 
 pub overflow_cast-result : goal.overflow_cast-result
 overflow_cast-result c =
-    record { fits = omega (arith, c.number.ensures, number_small c.in-Refused.r) }
+    record { fits = omega (arith, c.number.ensures, number_small c.in-Err.e.why) }
 
-pub returns-in-Is : goal.returns-in-Is
-returns-in-Is c =
-    ap load_answer_of (sym c.in-Is.is)
+pub returns-in-Ok : goal.returns-in-Ok
+returns-in-Ok c =
+    ap load_answer_of (sym c.in-Ok.is)
 
-pub returns-in-Refused : goal.returns-in-Refused
-returns-in-Refused c =
-    ap (λ (n : ℕ). refusedWith n c.in-Refused.id) c.number.ensures ∙ ap load_answer_of (sym c.in-Refused.is)
+pub returns-in-Err : goal.returns-in-Err
+returns-in-Err c =
+    ap (λ (n : ℕ). refusedWith n c.in-Err.e.id) c.number.ensures ∙ ap load_answer_of (sym c.in-Err.is)

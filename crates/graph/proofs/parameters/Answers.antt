@@ -1,18 +1,31 @@
--- `graph::parameters` meets its contract. Assumes nothing.
-use Rattle.graph.proofs.GraphLaws.{row_inside, row_stored, parameters-row}
+use Rattle.std.proofs.Common.{◌≤◌, ◌+◌, ◌∙◌, length, arith}
+use Rattle.graph.proofs.GraphLaws.{row_inside, row_size, row_stored, parameters-row}
 use Rattle.graph.proofs.parameters.Goals as goal
+
+pub overflow_add-base : goal.overflow_add-base
+overflow_add-base c =
+    omega (arith, row_inside c.args.y c.args.s.now c.requires.0 (parameters-row c.args.y) c.parameters.ensures c.scratch_start-base.ensures)
+
+pub offset_bounds-s-base : goal.offset_bounds-s-base
+offset_bounds-s-base c =
+    omega (arith, row_inside c.args.y c.args.s.now c.requires.0 (parameters-row c.args.y) c.parameters.ensures c.scratch_start-base.ensures)
+
+pub slice_bounds-insert_all-end : goal.slice_bounds-insert_all-end
+slice_bounds-insert_all-end c =
+    row_inside c.args.y c.args.s.now c.requires.0 (parameters-row c.args.y) c.parameters.ensures c.scratch_start-base.ensures
 
 pub insert_all-requires : goal.insert_all-requires
 insert_all-requires c =
-    let a = c.args in
-    (c.requires.1, c.requires.2, row_inside a.y a.s.now c.requires.0 (parameters-row a.y) c.parameters.ensures c.scratch_start-base.ensures)
+    let w = row_size c.args.y c.args.s.now c.requires.0 (parameters-row c.args.y) c.parameters.ensures c.scratch_start-base.ensures in
+    (c.requires.1, rw w c.requires.2)
 
 pub returns : goal.returns
 returns c =
     let a = c.args in
     let g = c.insert_all.ensures in
+    let w = row_size a.y a.s.now c.requires.0 (parameters-row a.y) c.parameters.ensures c.scratch_start-base.ensures in
     record {
       row = _;
-      stored = row_stored a.y a.s.now c.requires.0 (parameters-row a.y) c.parameters.ensures c.scratch_start-base.ensures _ _ g.long g.stored;
+      stored = row_stored a.y a.s.now c.requires.0 (parameters-row a.y) c.parameters.ensures c.scratch_start-base.ensures _ (g.long ∙ w);
       members = g.members;
     }
