@@ -12,9 +12,8 @@ use Rattle.dataflow.specs.Lists.{pick}
 use Rattle.dataflow.specs.Charges.{Spent, within, crossed, saturating_sum, spend}
 use Rattle.budget.specs.declared.FlowBudget.{FlowBudget}
 use Rattle.budget.specs.declared.Limits.{Limits}
-use Rattle.budget.specs.declared.Charged.{Charged}
-use Rattle.budget.specs.declared.Charged.TheVariants.{Ok, Over}
-use Rattle.budget.specs.Budget.{with_work, after_spent, charged, budget_of, and_charged}
+use Rattle.std.specs.Prelude.{Result, Ok, Err}
+use Rattle.budget.specs.Budget.{Charged, over, with_work, after_spent, charged, budget_of, and_charged}
 
 -- no charge changes nothing
 pub charged-none : (l : Limits) (b : FlowBudget) → charged l b [] ≡ Ok b
@@ -50,7 +49,7 @@ charged-append l b (c ∷ cs) ds =
     go : (r : Charged) → ((b' : FlowBudget) → charged l b' (cs ++ ds) ≡ and_charged (charged l b' cs) (λ b''. charged l b'' ds))
         → and_charged r (λ b'. charged l b' (cs ++ ds)) ≡ and_charged (and_charged r (λ b'. charged l b' cs)) (λ b''. charged l b'' ds)
     go (Ok b') f = f b'
-    go (Over b') f = refl
+    go (Err e) f = refl
 
 module _ (l : Limits) (b : FlowBudget) (cs ds : List ℕ) where
   -- those of the first part were met
@@ -58,16 +57,16 @@ module _ (l : Limits) (b : FlowBudget) (cs ds : List ℕ) where
   met_then e = charged-append l b cs ds ∙ ap (λ (c : Charged). and_charged c (λ b'. charged l b' ds)) e
 
   -- they crossed the limit, whatever was to follow
-  pub over_then : {x : FlowBudget} → charged l b cs ≡ Over x → charged l b (cs ++ ds) ≡ Over x
+  pub over_then : {x : FlowBudget} → charged l b cs ≡ over x → charged l b (cs ++ ds) ≡ over x
   over_then e = charged-append l b cs ds ∙ ap (λ (c : Charged). and_charged c (λ b'. charged l b' ds)) e
 
 -- a crossed limit is none that was met
-pub over-not_ok : {x left : FlowBudget} → Over x ≡ Ok left → ⊥
-over-not_ok e = false≢true (ap is_ok e)
+pub over-not_ok : {E : Type 0} {e : E} {left : FlowBudget} → ◌≡◌ {A = Result FlowBudget E} (Err e) (Ok left) → ⊥
+over-not_ok {E} r = false≢true (ap is_ok r)
   where
-    is_ok : Charged → Bool
+    is_ok : Result FlowBudget E → Bool
     is_ok (Ok x) = true
-    is_ok (Over x) = false
+    is_ok (Err x) = false
 
 -- one charge, by the sum that it makes
 module _ (l : Limits) (b : FlowBudget) (c w : ℕ) (e : w ≡ saturating_sum b.work c) where
@@ -75,7 +74,7 @@ module _ (l : Limits) (b : FlowBudget) (c w : ℕ) (e : w ≡ saturating_sum b.w
   unfolding charged
   charged_met h = rw (← e, le-leb w l.work h) refl
 
-  pub charged_over : l.work < w → Over (with_work b w) ≡ charged l b (c ∷ [])
+  pub charged_over : l.work < w → over (with_work b w) ≡ charged l b (c ∷ [])
   unfolding charged
   charged_over h = rw (← e, lt-leb w l.work h) refl
 
@@ -112,7 +111,7 @@ module _ (l : Limits) (b : FlowBudget) where
       ∙ met_then l b (replicate k 1) (replicate (n - k) 1) e
 
   -- so many crossed the limit: so do more
-  pub ones_over : (k n : ℕ) {b' : FlowBudget} → charged l b (replicate k 1) ≡ Over b' → k ≤ n → charged l b (replicate n 1) ≡ Over b'
+  pub ones_over : (k n : ℕ) {b' : FlowBudget} → charged l b (replicate k 1) ≡ over b' → k ≤ n → charged l b (replicate n 1) ≡ over b'
   ones_over k n {b'} e h =
       let q : n ≡ k + (n - k) = omega arith in
       ap (λ (i : ℕ). charged l b (replicate i 1)) q
@@ -127,5 +126,5 @@ module _ (l : Limits) (b : FlowBudget) where
 
 -- so many were met and the next one crosses the limit: that one decides, however many were to follow
 pub ones-crossed : (l : Limits) (b : FlowBudget) (k n : ℕ) {left x : FlowBudget} → charged l b (replicate k 1) ≡ Ok left → k < n
-    → charged l left (1 ∷ []) ≡ Over x → charged l b (replicate n 1) ≡ Over x
+    → charged l left (1 ∷ []) ≡ over x → charged l b (replicate n 1) ≡ over x
 ones-crossed l b k n {left} {x} e h f = ones_on l b k n e (omega arith) ∙ ones_over l left 1 (n - k) f (omega arith)

@@ -11,8 +11,8 @@ use Rattle.dataflow.specs.Charges.{Spent, within, crossed, saturating_sum, spend
 use Rattle.dataflow.proofs.Charges.{spend-limit}
 use Rattle.budget.specs.declared.FlowBudget.{FlowBudget}
 use Rattle.budget.specs.declared.Limits.{Limits}
-use Rattle.budget.specs.declared.Charged.TheVariants.{Ok, Over}
-use Rattle.budget.specs.Budget.{todays, counted, NowhereLower, after_spent, charged, retained}
+use Rattle.std.specs.Prelude.{Ok}
+use Rattle.budget.specs.Budget.{todays, counted, NowhereLower, after_spent, charged, over_facts, retained}
 use Rattle.budget.proofs.BudgetLaws.{over-not_ok}
 
 -- today's count as they are
@@ -52,7 +52,7 @@ module _ (l h : Limits) (le : NowhereLower l h) where
       next : FlowBudget
       next = record { work = b.work; retained = saturating_sum b.retained n }
 
-      go : (t : Bool) → leb (saturating_sum b.retained n) l.facts ≡ t → pick t (Ok next) (Over next) ≡ Ok left
-          → pick (leb (saturating_sum b.retained n) h.facts) (Ok next) (Over next) ≡ Ok left
+      go : (t : Bool) → leb (saturating_sum b.retained n) l.facts ≡ t → pick t (Ok next) (over_facts next) ≡ Ok left
+          → pick (leb (saturating_sum b.retained n) h.facts) (Ok next) (over_facts next) ≡ Ok left
       go true q e = rw (le-leb (saturating_sum b.retained n) h.facts (omega (arith, leb-true (saturating_sum b.retained n) l.facts q, le.facts))) e
       go false q e = absurd (over-not_ok e)

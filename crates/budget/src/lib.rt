@@ -1,52 +1,34 @@
 // The budget of a run: `FlowBudget`, `charge` and `state_bytes` of the source. Limits travel beside it; a call that is handed none takes today's.
 #![tactic(auto)]
 
-ghost use Rattle.std.specs.Prelude.{◌≡◌, [], ◌∷◌, ◌≤◌, min};
-ghost use Rattle.dataflow.specs.Charges.{saturating_sum};
-ghost use Rattle.budget.specs.Budget.{todays, counted, budget_of, charged, retained, state_bytes, facts_bytes};
+ghost use Rattle.std.specs.Prelude.{◌≡◌, [], ◌∷◌, ◌≤◌};
+ghost use Rattle.budget.specs.Budget.{todays, counted, charged, retained, state_bytes, facts_bytes};
 
 // Work charged and bytes of await facts retained so far.
-#[derive(Clone, Copy)]
+#[derive(Clone, Copy, PartialEq, Eq, Debug)]
 pub struct FlowBudget {
     pub work: u64,
     pub retained: u64,
 }
 
 // What work, state and retained facts may not exceed.
-#[derive(Clone, Copy)]
+#[derive(Clone, Copy, PartialEq, Eq, Debug)]
 pub struct Limits {
     pub work: u64,
     pub state: u64,
     pub facts: u64,
 }
 
-// The budget to go on with, or the one that crossed the limit.
-#[derive(Clone, Copy)]
-pub enum Charged {
-    Ok(FlowBudget),
-    Over(FlowBudget),
+// A charge crossed the limit of work: the budget with that charge.
+#[derive(Clone, Copy, PartialEq, Eq, Debug)]
+pub struct OverWork {
+    pub budget: FlowBudget,
 }
 
-impl Charged {
-    // The budget in it, whether a limit was crossed or not.
-    pub fn budget(self) -> FlowBudget
-        ensures { result ≡ budget_of self }
-    {
-        match self {
-            Charged::Ok(b) => b,
-            Charged::Over(b) => b,
-        }
-    }
-}
-
-// The sum, or the largest number where it would not fit.
-pub fn saturating_add(a: u64, b: u64) -> u64
-    ensures { result ≡ saturating_sum a b }
-{
-    if a <= 18446744073709551615 - b {
-        return a + b;
-    }
-    18446744073709551615
+// The facts of an await crossed the limit of facts: the budget with them.
+#[derive(Clone, Copy, PartialEq, Eq, Debug)]
+pub struct OverFacts {
+    pub budget: FlowBudget,
 }
 
 impl Limits {
@@ -67,51 +49,42 @@ impl Limits {
     {
         let t = Limits::todays();
         Limits {
-            work: smaller(self.work, t.work),
-            state: smaller(self.state, t.state),
-            facts: smaller(self.facts, t.facts),
+            work: self.work.min(t.work),
+            state: self.state.min(t.state),
+            facts: self.facts.min(t.facts),
         }
     }
-}
-
-fn smaller(a: u64, b: u64) -> u64
-    ensures { result ≡ min a b }
-{
-    if a < b {
-        return a;
-    }
-    b
 }
 
 impl FlowBudget {
-    // Charges work: `charge` of flow.rs.
-    pub fn charge(self, count: u64, limits: Limits) -> Charged
+    // Charges work: `charge` of flow.rs. The budget to go on with, or the one that crossed the limit.
+    pub fn charge(self, count: u64, limits: Limits) -> Result<FlowBudget, OverWork>
         ensures { result ≡ charged limits self (count ∷ []) }
     {
-        let work = saturating_add(self.work, count);
-        let next = FlowBudget {
-            work: work,
+        let budget = FlowBudget {
+            work: self.work.saturating_add(count),
             retained: self.retained,
         };
-        if work <= limits.work {
-            return Charged::Ok(next);
+        if budget.work <= limits.work {
+            Ok(budget)
+        } else {
+            Err(OverWork { budget })
         }
-        Charged::Over(next)
     }
 
     // Retains the facts of an await, as `check_points` of flow.rs does.
-    pub fn retain(self, bytes: u64, limits: Limits) -> Charged
+    pub fn retain(self, bytes: u64, limits: Limits) -> Result<FlowBudget, OverFacts>
         ensures { result ≡ retained limits self bytes }
     {
-        let sum = saturating_add(self.retained, bytes);
-        let next = FlowBudget {
+        let budget = FlowBudget {
             work: self.work,
-            retained: sum,
+            retained: self.retained.saturating_add(bytes),
         };
-        if sum <= limits.facts {
-            return Charged::Ok(next);
+        if budget.retained <= limits.facts {
+            Ok(budget)
+        } else {
+            Err(OverFacts { budget })
         }
-        Charged::Over(next)
     }
 }
 

@@ -3,14 +3,15 @@
 
 ghost use Rattle.std.specs.Prelude.{◌≡◌, ◌≤◌};
 ghost use Rattle.sizes.specs.Sizes.{scratch_words, answer_words, sets_words, layout_of, short_of};
-ghost use Rattle.sizes.specs.Stages.{rooms_of};
+ghost use Rattle.sizes.specs.Stages.{halt, rooms_of};
+ghost use Rattle.format.specs.declared.refusal.Refusal.TheVariants.{FactsLimit, WorkLimit};
 
-use budget::{FlowBudget, Limits};
+use budget::{FlowBudget, Limits, OverFacts, OverWork};
 use format::refusal::Refusal;
 use sheet::script::Script;
 
 // The numbers that fix both layouts: instructions, blocks, words a set, awaits, and how many edges there may be past two a block.
-#[derive(Clone, Copy)]
+#[derive(Clone, Copy, PartialEq, Eq, Debug)]
 pub struct Layout {
     pub instructions: usize,
     pub blocks: usize,
@@ -20,17 +21,39 @@ pub struct Layout {
 }
 
 // How long the other lent buffers are: words of sets, and block records.
-#[derive(Clone, Copy)]
+#[derive(Clone, Copy, PartialEq, Eq, Debug)]
 pub struct Lent {
     pub sets: usize,
     pub records: usize,
 }
 
-// The layout and the budget to go on with, or a refusal with the budget as charged.
-#[derive(Clone, Copy)]
-pub enum Staged {
-    Ok(Layout, FlowBudget),
-    Refused(Refusal, FlowBudget),
+// Why the judging of a script stops, with the budget as charged.
+#[derive(Clone, Copy, PartialEq, Eq, Debug)]
+pub struct Stopped {
+    pub why: Refusal,
+    pub budget: FlowBudget,
+}
+
+impl From<OverWork> for Stopped {
+    ghost from_gives = { λ over stopped. stopped ≡ halt WorkLimit over.budget };
+
+    fn from(over: OverWork) -> Stopped {
+        Stopped {
+            why: Refusal::WorkLimit,
+            budget: over.budget,
+        }
+    }
+}
+
+impl From<OverFacts> for Stopped {
+    ghost from_gives = { λ over stopped. stopped ≡ halt FactsLimit over.budget };
+
+    fn from(over: OverFacts) -> Stopped {
+        Stopped {
+            why: Refusal::FactsLimit,
+            budget: over.budget,
+        }
+    }
 }
 
 impl Layout {
@@ -41,8 +64,8 @@ impl Layout {
     {
         Layout {
             instructions: script.count,
-            blocks: blocks,
-            words: (script.slots + 63) / 64,
+            blocks,
+            words: script.slots.div_ceil(64),
             awaits: script.awaits,
             extra: 0,
         }
@@ -81,19 +104,32 @@ fn short(y: Layout, scratch: usize, lent: Lent) -> bool
     requires { (y.instructions ≤ 65536) × (y.blocks ≤ 65536) × (y.words ≤ 1024) × (y.awaits ≤ 65536) × (y.extra ≤ 16777216) }
     ensures { result ≡ short_of y scratch lent }
 {
-    (scratch < y.scratch_words()) | (lent.sets < y.sets_words()) | (lent.records < y.blocks)
+    scratch < y.scratch_words() || lent.sets < y.sets_words() || lent.records < y.blocks
 }
 
 // 11, then 10.
-pub fn rooms(y: Layout, scratch: usize, lent: Lent, limits: Limits, budget: FlowBudget) -> Staged
+#[tactic(auto, unfolding(crate::specs::Stages::rooms_of))]
+pub fn rooms(
+    y: Layout,
+    scratch: usize,
+    lent: Lent,
+    limits: Limits,
+    budget: FlowBudget,
+) -> Result<(Layout, FlowBudget), Stopped>
     requires { (y.instructions ≤ 65536) × (y.blocks ≤ 65536) × (y.words ≤ 1024) × (y.awaits ≤ 65536) × (y.extra ≤ 16777216) }
     ensures { result ≡ rooms_of limits y scratch lent budget }
 {
     if limits.state < budget::state_bytes(y.blocks, y.words) {
-        return Staged::Refused(Refusal::StateLimit, budget);
+        return Err(Stopped {
+            why: Refusal::StateLimit,
+            budget,
+        });
     }
     if short(y, scratch, lent) {
-        return Staged::Refused(Refusal::NoRoom, budget);
+        return Err(Stopped {
+            why: Refusal::NoRoom,
+            budget,
+        });
     }
-    Staged::Ok(y, budget)
+    Ok((y, budget))
 }
