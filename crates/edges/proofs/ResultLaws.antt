@@ -14,7 +14,7 @@ use Rattle.sizes.specs.declared.Layout.{Layout}
 use Rattle.memory.proofs.CellLaws.{same_word}
 use Rattle.budget.specs.declared.FlowBudget.{FlowBudget}
 use Rattle.budget.specs.declared.Limits.{Limits}
-use Rattle.budget.specs.declared.Charged.{Charged}
+use Rattle.budget.specs.Budget.{Charged}
 use Rattle.memory.specs.Edges.{source_of, place_of, next_edge, chain_from, edges_into}
 use Rattle.memory.specs.Scratch.{edge_words}
 use Rattle.edges.specs.Edges.{edges_before, Holds}

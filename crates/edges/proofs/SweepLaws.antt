@@ -16,18 +16,16 @@ use Rattle.memory.specs.Edges.{successor_at}
 use Rattle.sizes.specs.declared.Layout.{Layout}
 use Rattle.budget.specs.declared.FlowBudget.{FlowBudget}
 use Rattle.budget.specs.declared.Limits.{Limits}
-use Rattle.budget.specs.declared.Charged.{Charged}
-use Rattle.budget.specs.declared.Charged.TheVariants.{Ok, Over}
-use Rattle.budget.specs.Budget.{charged, budget_of}
+use Rattle.budget.specs.declared.OverWork.{OverWork}
+use Rattle.std.specs.Prelude.{Ok, Err}
+use Rattle.budget.specs.Budget.{Charged, charged}
 use Rattle.budget.proofs.BudgetLaws.{charged-none, ones_on, ones_over, ones-crossed}
-use Rattle.edges.specs.declared.reachability.Pushed.{Pushed}
-use Rattle.edges.specs.declared.reachability.Pushed.TheVariants as pushed
 use Rattle.edges.specs.Edges.{Holds}
 use Rattle.bitset.specs.Below.{AllBelow}
 use Rattle.memory.specs.Frame.{Only, NoRow}
 use Rattle.memory.proofs.FrameLaws.{only_then}
 use Rattle.edges.specs.Reachability.{swept_from, sweep_charges, sweep_cells, Reached}
-use Rattle.edges.specs.Stack.{charged_of, stack_of, Sweeps, Begun, Entered, Advanced}
+use Rattle.edges.specs.Stack.{stack_of, Sweeps, Begun, Entered, Advanced}
 use Rattle.edges.proofs.EdgeLaws.{holds-only}
 
 -- ---- the successors of a block, k of which have been added to r
@@ -71,30 +69,21 @@ successor_at_lem {next} {block = block} {k = k} lt h f en less e =
 module _ {y : Layout} {l : Limits} {b left : FlowBudget} {block top k n : ℕ} {m m' : Mem} (lt : block < y.blocks)
     (en : n ≡ word m successor_count_cell block) (paid : charged l b (replicate k 1) ≡ Ok left) (only : Only sweep_cells NoRow m m') where
   -- a charge crossed the limit
-  pub advanced_over : k < n → {c : Charged} {x : FlowBudget} {p : Pushed} → c ≡ charged l left (1 ∷ []) → c ≡ Over x → p ≡ pushed.Over (budget_of c)
-      → Advanced y l b block top m m' p
-  advanced_over less {c} {x} {p} ec eo ep = record {
-    charges = λ next h. ap charged_of is ∙ sym (ap (λ (i : ℕ). charged l b (replicate i 1)) (sym (h.counted block lt) ∙ sym en) ∙ crosses);
-    sweeps = λ next h r s top' left' e. let z : ◌≡◌ {A = ℕ} 0 1 = cc in absurd (omega arith);
+  pub advanced_over : k < n → {e : OverWork} → Err e ≡ charged l left (1 ∷ []) → Advanced y l b block top m m' (Err e)
+  advanced_over less {e} ec = record {
+    charges = λ next h. ap (λ (i : ℕ). charged l b (replicate i 1)) (sym (h.counted block lt) ∙ sym en) ∙ ones-crossed l b k n paid less (sym ec);
+    sweeps = λ next h d s. tt;
     only = only;
   }
-    where
-      is : p ≡ pushed.Over x
-      is = ep ∙ ap (λ (d : Charged). pushed.Over (budget_of d)) eo
-
-      crosses : charged l b (replicate n 1) ≡ Over x
-      crosses = ones-crossed l b k n paid less (sym ec ∙ eo)
 
   -- all charges were met, and all successors joined
   pub advanced_all : n ≤ k → k ≤ n → {high : ℕ}
       → ((next : ℕ → List ℕ) → Holds next y m → (r : Sweep) → Sweeps y top r m → Adding next y block k high r m')
-      → Advanced y l b block top m m' (pushed.Ok high left)
+      → Advanced y l b block top m m' (Ok (high, left))
   advanced_all past most {high} add = record {
     charges = λ next h. let q : k ≡ length (next block) = omega (arith, h.counted block lt) in
-        sym (ap (λ (i : ℕ). charged l b (replicate i 1)) (sym q) ∙ paid);
-    sweeps = λ next h r s top' left' e.
-        let q : high ≡ top' = cc in
-        subst (λ (i : ℕ). Sweeps y i (add_all next (next block) r) m') q (adding_all (omega (arith, h.counted block lt)) (add next h r s));
+        ap (λ (i : ℕ). charged l b (replicate i 1)) (sym q) ∙ paid;
+    sweeps = λ next h d s. adding_all (omega (arith, h.counted block lt)) (add next h d s);
     only = only;
   }
 
@@ -177,7 +166,7 @@ module _ {next : ℕ → List ℕ} {y : Layout} {l : Limits} {b : FlowBudget} {n
         room = omega (arith, s.sweeps.room);
       }
 
-      module _ {n' : ℕ} (more : n ≡ suc n') {p : Pushed} {m' : Mem} (h : Holds next y m) (a : Advanced y l left block (top - 1) m m' p) where
+      module _ {n' : ℕ} (more : n ≡ suc n') (h : Holds next y m) where
         turned : sweep next n' (take_top next block (stack_of m (top - 1)) s.at) ≡ swept_from next y.blocks
         turned =
             sym (sweep-turn next n' block (stack_of m (top - 1)) s.at (pending ∙ ap (λ (x : ℕ). x ∷ stack_of m (top - 1)) (sym e)))
@@ -186,31 +175,36 @@ module _ {next : ℕ → List ℕ} {y : Layout} {l : Limits} {b : FlowBudget} {n
         taken : edges_of next (take_top next block (stack_of m (top - 1)) s.at).taken ≡ length (next block) + edges_of next s.at.taken
         taken = top-edges next block (stack_of m (top - 1)) s.at
 
-        both : charged l b (replicate (length (next block) + edges_of next s.at.taken) 1) ≡ charged_of p
+        both : charged l b (replicate (length (next block) + edges_of next s.at.taken) 1) ≡ charged l left (replicate (length (next block)) 1)
         both =
             let q : length (next block) + edges_of next s.at.taken - edges_of next s.at.taken ≡ length (next block) = omega arith in
             ones_on l b (edges_of next s.at.taken) (length (next block) + edges_of next s.at.taken) s.paid (omega arith)
-            ∙ ap (λ (i : ℕ). charged l left (replicate i 1)) q ∙ sym (a.charges next h)
+            ∙ ap (λ (i : ℕ). charged l left (replicate i 1)) q
 
         -- its successors joined
-        pub swept_more : {top' : ℕ} {left' : FlowBudget} → p ≡ pushed.Ok top' left' → Swept next y l b n' top' left' m'
-        swept_more {top'} {left'} q = record {
+        pub swept_more : {m' : Mem} {top' : ℕ} {left' : FlowBudget} → Advanced y l left block (top - 1) m m' (Ok (top', left'))
+            → Swept next y l b n' top' left' m'
+        swept_more a = record {
           at = take_top next block (stack_of m (top - 1)) s.at;
           here = turned;
-          sweeps = a.sweeps next h popped swept_popped top' left' q;
-          paid = ap (λ (i : ℕ). charged l b (replicate i 1)) taken ∙ both ∙ ap charged_of q;
+          sweeps = a.sweeps next h popped swept_popped;
+          paid = ap (λ (i : ℕ). charged l b (replicate i 1)) taken ∙ both ∙ a.charges next h;
         }
 
-        -- a charge crossed the limit
-        pub swept_over : {left' : FlowBudget} → p ≡ pushed.Over left' → charged l b (sweep_charges next y.blocks) ≡ Over left'
-        swept_over {left'} q =
+        over_at : {m' : Mem} {x : OverWork} → Advanced y l left block (top - 1) m m' (Err x) → charged l b (sweep_charges next y.blocks) ≡ Err x
+        over_at {x} a =
             ones_over l b (length (next block) + edges_of next s.at.taken) (edges_of next (swept_from next y.blocks).taken)
-            (both ∙ ap charged_of q) (omega (arith, grown, taken))
+            (both ∙ a.charges next h) (omega (arith, grown, taken))
           where
             grown : edges_of next (take_top next block (stack_of m (top - 1)) s.at).taken ≤ edges_of next (swept_from next y.blocks).taken
             grown =
                 subst (λ (x : Sweep). edges_of next (take_top next block (stack_of m (top - 1)) s.at).taken ≤ edges_of next x.taken) turned
                 (edges-grow next n' (take_top next block (stack_of m (top - 1)) s.at))
+
+      -- a charge crossed the limit
+      pub swept_over : 0 < n → Holds next y m → {m' : Mem} {x : OverWork} → Advanced y l left block (top - 1) m m' (Err x)
+          → charged l b (sweep_charges next y.blocks) ≡ Err x
+      swept_over some h a = over_at {n' = n - 1} (omega arith) h a
 
   -- ---- the end
   module _ (e : s.at ≡ swept_from next y.blocks) where
@@ -244,14 +238,14 @@ module _ {y : Layout} {l : Limits} {b left : FlowBudget} {n top : ℕ} {m m' : M
       → ((next : ℕ → List ℕ) (s : Swept next y l b n top left m') → s.at ≡ swept_from next y.blocks) → Reached y l b m m' (Ok left)
   reached_end s e = record {
     charges = λ next h. ended_charges (s next h) (e next (s next h));
-    marks = λ next h left' q. ended_marks (s next h) (e next (s next h));
+    marks = λ next h. ended_marks (s next h) (e next (s next h));
     only = only;
   }
 
-pub reached-over : {y : Layout} {l : Limits} {b x : FlowBudget} {m m' : Mem} {r : Charged} → Only sweep_cells NoRow m m'
-    → ((next : ℕ → List ℕ) → Holds next y m → charged l b (sweep_charges next y.blocks) ≡ Over x) → r ≡ Over x → Reached y l b m m' r
-reached-over only f e = record {
-  charges = λ next h. e ∙ sym (f next h);
-  marks = λ next h left q. let z : ◌≡◌ {A = ℕ} 0 1 = cc in absurd (omega arith);
+pub reached-over : {y : Layout} {l : Limits} {b : FlowBudget} {e : OverWork} {m m' : Mem} → Only sweep_cells NoRow m m'
+    → ((next : ℕ → List ℕ) → Holds next y m → charged l b (sweep_charges next y.blocks) ≡ Err e) → Reached y l b m m' (Err e)
+reached-over only f = record {
+  charges = λ next h. sym (f next h);
+  marks = λ next h. tt;
   only = only;
 }

@@ -1,5 +1,5 @@
 -- The stack search of flow.rs `reachability`, over the words of scratch.
-use Rattle.std.specs.Prelude.{◌≡◌, false, List, [], ◌∷◌, map, ℕ, ◌<◌, length, get_or, replicate}
+use Rattle.std.specs.Prelude.{◌≡◌, false, List, [], ◌∷◌, map, ℕ, ◌<◌, length, get_or, replicate, OnOk}
 use Rattle.dataflow.specs.Lists.{sum, flag}
 use Rattle.dataflow.specs.Search.{Sweep, sweep, sweep_from}
 use Rattle.memory.specs.Cells.{Mem, word}
@@ -8,9 +8,7 @@ use Rattle.memory.specs.Names.{reachable_cell, stack_block_cell}
 use Rattle.sizes.specs.declared.Layout.{Layout}
 use Rattle.budget.specs.declared.FlowBudget.{FlowBudget}
 use Rattle.budget.specs.declared.Limits.{Limits}
-use Rattle.budget.specs.declared.Charged.{Charged}
-use Rattle.budget.specs.declared.Charged.TheVariants.{Ok}
-use Rattle.budget.specs.Budget.{charged}
+use Rattle.budget.specs.Budget.{Charged, charged}
 use Rattle.edges.specs.Edges.{Holds}
 
 -- the search from block 0 of n blocks, to its end
@@ -29,6 +27,6 @@ sweep_cells = reachable_cell ∷ stack_block_cell ∷ []
 -- cells change
 pub record Reached (y : Layout) (l : Limits) (b : FlowBudget) (m m' : Mem) (r : Charged) : Type 0 where
   pub charges : (next : ℕ → List ℕ) → Holds next y m → r ≡ charged l b (sweep_charges next y.blocks)
-  pub marks : (next : ℕ → List ℕ) → Holds next y m → (left : FlowBudget) → r ≡ Ok left
-      → (c : ℕ) → c < y.blocks → word m' reachable_cell c ≡ flag (get_or (swept_from next y.blocks).visited c false)
+  pub marks : (next : ℕ → List ℕ) → Holds next y m
+      → OnOk r ((c : ℕ) → c < y.blocks → word m' reachable_cell c ≡ flag (get_or (swept_from next y.blocks).visited c false))
   pub only : Only sweep_cells NoRow m m'

@@ -1,5 +1,5 @@
 -- The stack and the marks of the search in the words of scratch: what the private functions of src/reachability.rt do.
-use Rattle.std.specs.Prelude.{◌≡◌, false, List, [], ◌∷◌, ℕ, zero, suc, ◌+◌, ◌≤◌, ◌<◌, length, get_or, replicate}
+use Rattle.std.specs.Prelude.{◌≡◌, false, List, [], ◌∷◌, ℕ, zero, suc, ◌+◌, ◌≤◌, ◌<◌, length, get_or, replicate, Result, IfOk}
 use Rattle.dataflow.specs.Search.{Sweep, unvisited, add, add_all, sweep_from}
 use Rattle.memory.specs.Cells.{Mem, word}
 use Rattle.memory.specs.Frame.{Only, NoRow}
@@ -8,24 +8,11 @@ use Rattle.dataflow.specs.Lists.{flag}
 use Rattle.sizes.specs.declared.Layout.{Layout}
 use Rattle.budget.specs.declared.FlowBudget.{FlowBudget}
 use Rattle.budget.specs.declared.Limits.{Limits}
-use Rattle.budget.specs.declared.Charged.{Charged}
-use Rattle.budget.specs.declared.Charged.TheVariants.{Ok, Over}
-use Rattle.budget.specs.Budget.{charged}
-use Rattle.edges.specs.declared.reachability.Pushed.{Pushed}
-use Rattle.edges.specs.declared.reachability.Pushed.TheVariants as pushed
+use Rattle.budget.specs.declared.OverWork.{OverWork}
+use Rattle.budget.specs.Budget.{charged, ChargedAs}
 use Rattle.edges.specs.Edges.{Holds}
 use Rattle.edges.specs.Reachability.{sweep_cells}
 use Rattle.bitset.specs.Below.{AllBelow}
-
--- an answer's budget
-abbrev pub left_of : Pushed → FlowBudget
-left_of (pushed.Ok top b) = b
-left_of (pushed.Over b) = b
-
--- an answer as that of its charges
-abbrev pub charged_of : Pushed → Charged
-charged_of (pushed.Ok top b) = Ok b
-charged_of (pushed.Over b) = Over b
 
 -- the lowest n blocks of the stack, from the top
 abbrev pub stack_of : Mem → ℕ → List ℕ
@@ -54,8 +41,7 @@ pub record Entered (y : Layout) (block top : ℕ) (m m' : Mem) (top' : ℕ) : Ty
   pub only : Only sweep_cells NoRow m m'
 
 -- what `push_successors` does, for whatever graph the words hold: one charge for each successor, and if they are met, all successors joined
-pub record Advanced (y : Layout) (l : Limits) (b : FlowBudget) (block top : ℕ) (m m' : Mem) (p : Pushed) : Type 0 where
-  pub charges : (next : ℕ → List ℕ) → Holds next y m → charged_of p ≡ charged l b (replicate (length (next block)) 1)
-  pub sweeps : (next : ℕ → List ℕ) → Holds next y m → (r : Sweep) → Sweeps y top r m → (top' : ℕ) (left : FlowBudget) → p ≡ pushed.Ok top' left
-      → Sweeps y top' (add_all next (next block) r) m'
+pub record Advanced (y : Layout) (l : Limits) (b : FlowBudget) (block top : ℕ) (m m' : Mem) (r : Result (ℕ × FlowBudget) OverWork) : Type 0 where
+  pub charges : (next : ℕ → List ℕ) → Holds next y m → ChargedAs r (charged l b (replicate (length (next block)) 1))
+  pub sweeps : (next : ℕ → List ℕ) → Holds next y m → (d : Sweep) → Sweeps y top d m → IfOk r (λ p. Sweeps y p.0 (add_all next (next block) d) m')
   pub only : Only sweep_cells NoRow m m'

@@ -1,10 +1,9 @@
 // The predecessors of each block, as a chain of edges. An edge is named by the block that it leaves and by its place; the word of that place in
 // NEXT_EDGE is the next edge that leads to the same block. Edges are taken from the last, so that each chain ascends, as the source lists them.
 ghost use Rattle.std.specs.Prelude.{◌≡◌, ◌<◌, length};
-ghost use Rattle.memory.specs.Names.{predecessor_count_cell};
 ghost use Rattle.memory.specs.Scratch.{scratch, edge_words, Room};
 ghost use Rattle.memory.specs.Edges.{place_of};
-ghost use Rattle.edges.specs.Edges.{Held, Cleared};
+ghost use Rattle.edges.specs.Edges.{Held};
 ghost use Rattle.edges.specs.Predecessors.{Linked};
 ghost use Rattle.edges.specs.Chains.{Linking, Chaining, RoomToCount, linked_in};
 
@@ -17,21 +16,12 @@ pub fn predecessors(s: &mut [u64], y: Layout)
     requires { Room y (length s.old) × Held y (scratch y s.old) }
     ensures { Linked y (scratch y s.old) (scratch y s.new) }
 {
-    clear_counts(s, y);
-    let mut left = y.blocks;
-    let mut low = layout::edge_words(y);
-    while 0 < left {
-        left -= 1;
-        low = chain_successors(s, y, left, low);
-    }
-}
-
-// No edge leads to any block yet.
-fn clear_counts(s: &mut [u64], y: Layout)
-    requires { Room y (length s.old) }
-    ensures { Cleared y predecessor_count_cell (scratch y s.old) (scratch y s.new) }
-{
+    // No edge leads to any block yet.
     words::clear(s, y, layout::PREDECESSOR_COUNT);
+    let mut low = layout::edge_words(y);
+    for block in (0..y.blocks).rev() {
+        low = chain_successors(s, y, block, low);
+    }
 }
 
 // The edges of one block, the last first, at the places before `low`. Where these begin.
@@ -41,9 +31,7 @@ fn chain_successors(s: &mut [u64], y: Layout, block: usize, low: usize) -> usize
 {
     let n = memory::scratch::get(s, y, layout::SUCCESSOR_COUNT, block) as usize;
     let base = low - n;
-    let mut k = n;
-    while 0 < k {
-        k -= 1;
+    for k in (0..n).rev() {
         let to = edges::successor(s, y, block, n, k) as usize;
         chain(s, y, edges::edge(block, base + k) as usize, to);
     }

@@ -11,9 +11,9 @@ use Rattle.dataflow.specs.Code.{Instruction, block_successors}
 use Rattle.dataflow.specs.Charges.{postorder_charges, propagate_charges, rounds_charges}
 use Rattle.budget.specs.declared.FlowBudget.{FlowBudget}
 use Rattle.budget.specs.declared.Limits.{Limits}
-use Rattle.budget.specs.declared.Charged.{Charged}
-use Rattle.budget.specs.declared.Charged.TheVariants.{Ok, Over}
-use Rattle.budget.specs.Budget.{charged}
+use Rattle.budget.specs.declared.OverWork.{OverWork}
+use Rattle.std.specs.Prelude.{Result, Ok, Err}
+use Rattle.budget.specs.Budget.{Charged, charged}
 use Rattle.budget.proofs.BudgetLaws.{met_then, over_then, over-not_ok}
 use Rattle.memory.specs.Cells.{Mem, cell}
 use Rattle.memory.specs.Names.{order_cell, parameters_row, initialized_row, live_row}
@@ -23,9 +23,7 @@ use Rattle.memory.proofs.CellLaws.{Sized}
 use Rattle.memory.proofs.ScratchLaws.{scratch_sized, row_words}
 use Rattle.edges.specs.Edges.{Held}
 use Rattle.edges.proofs.FlowLaws.{Still, still-only, flows-still}
-use Rattle.order.specs.declared.Ordered.{Ordered}
-use Rattle.order.specs.declared.Ordered.TheVariants as ordering
-use Rattle.order.specs.Postorder.{searched_from, search_charges, charged_in, Searched}
+use Rattle.order.specs.Postorder.{searched_from, search_charges, Searched}
 use Rattle.transfer.specs.declared.direction.Direction.{Direction}
 use Rattle.transfer.specs.declared.direction.Direction.TheVariants.{Initialization, Liveness}
 use Rattle.propagate.specs.Rounds.{Seedable, Propagated}
@@ -41,7 +39,8 @@ use Rattle.fixed_points.proofs.Seeds.{seedable}
 -- ---- what stays
 
 -- the search leaves the graph's cells as they were
-pub still-searched : {y : Layout} {l : Limits} {b : FlowBudget} {m m' : Mem} {o : Ordered} → Searched y l b m m' o → Still y m m'
+pub still-searched : {y : Layout} {l : Limits} {b : FlowBudget} {m m' : Mem} {r : Result (ℕ × FlowBudget) OverWork}
+    → Searched y l b m m' r → Still y m m'
 still-searched p = still-only refl (λ k r. absurd r) p.only
 
 -- so does a round
@@ -73,27 +72,37 @@ pub initialized-round : {y : Layout} {l : Limits} {b : FlowBudget} {n : ℕ} {m 
 initialized-round {left = left} p e c = p.other_sets left e (initialized_row c) (λ c' lt' q. omega arith)
 
 -- ---- after the search
-module _ {code : List Instruction} {parameter : ℕ → Bool} {y : Layout} {l : Limits} {b : FlowBudget} {m m' : Mem} {o : Ordered}
-    (f : Flows code parameter y m) (p : Searched y l b m m' o) where
-  -- its charges are those of the code's postorder
-  search-charges : charged_in o ≡ charged l b (postorder_charges code)
-  search-charges =
-      p.charges (block_successors code) f.holds ∙ ap (λ (k : ℕ). charged l b (search_charges (block_successors code) k)) f.blocks
 
-  -- it leaves the code's postorder
-  pub order_searched : {n : ℕ} {left : FlowBudget} → o ≡ ordering.Ok n left → InOrder code n m'
-  order_searched {n} {left} e = record {
-    order = p.order (block_successors code) f.holds n left e
-        ∙ ap (λ (k : ℕ). reverse (searched_from (block_successors code) k).finished) f.blocks;
-    len = p.len (block_successors code) f.holds n left e
-        ∙ ap (λ (k : ℕ). length (searched_from (block_successors code) k).finished) f.blocks;
-  }
+-- its charges are those of the code's postorder
+search-charges : {code : List Instruction} {parameter : ℕ → Bool} {y : Layout} {m : Mem} → Flows code parameter y m
+    → postorder_charges code ≡ search_charges (block_successors code) y.blocks
+search-charges {code} f = sym (ap (search_charges (block_successors code)) f.blocks)
+
+module _ {code : List Instruction} {parameter : ℕ → Bool} {y : Layout} {l : Limits} {b : FlowBudget} {m m' : Mem}
+    (f : Flows code parameter y m) where
+  -- they crossed the limit
+  searched_over : {e : OverWork} → Searched y l b m m' (Err e) → charged l b (postorder_charges code) ≡ Err e
+  searched_over p = ap (charged l b) (search-charges f) ∙ p.charges (block_successors code) f.holds
+
+  module _ {n : ℕ} {left : FlowBudget} (p : Searched y l b m m' (Ok (n, left))) where
+    -- they were met
+    searched_met : charged l b (postorder_charges code) ≡ Ok left
+    searched_met = ap (charged l b) (search-charges f) ∙ p.charges (block_successors code) f.holds
+
+    -- it leaves the code's postorder
+    pub order_searched : InOrder code n m'
+    order_searched = record {
+      order = p.order (block_successors code) f.holds
+          ∙ ap (λ (k : ℕ). reverse (searched_from (block_successors code) k).finished) f.blocks;
+      len = p.len (block_successors code) f.holds
+          ∙ ap (λ (k : ℕ). length (searched_from (block_successors code) k).finished) f.blocks;
+    }
 
 -- ---- both rounds
 module _ {y : Layout} {l : Limits} {b : FlowBudget} {n : ℕ} {m m₁ t t₁ : Mem} {c : Charged} (z : Sized (scratch_widths y) m) (w : RowsOfWords y m)
     (p : Propagated Initialization y l b n m m₁ t t₁ c) where
   -- the first round crossed the limit
-  pub rounds_over : {x : FlowBudget} → c ≡ Over x → RoundsDone y l b n m m₁ t t₁ c
+  pub rounds_over : {x : OverWork} → c ≡ Err x → RoundsDone y l b n m m₁ t t₁ c
   rounds_over {x} e = record {
     charges = λ code parameter s f o fresh. e ∙ sym (over_then l b (propagate_charges code parameter y.words initialization)
         (propagate_charges code parameter y.words liveness) (sym (round_charges_lem s f z w o (fresh_in Initialization fresh) p) ∙ e));
@@ -119,29 +128,26 @@ module _ {y : Layout} {l : Limits} {b : FlowBudget} {n : ℕ} {m m₁ t t₁ : M
   }
 
 -- ---- all stages
-module _ {y : Layout} {l : Limits} {b : FlowBudget} {m m₁ t t' : Mem} {o : Ordered} (p : Searched y l b m m₁ o) where
+module _ {y : Layout} {l : Limits} {b : FlowBudget} {m m₁ t t' : Mem} where
   -- the search crossed the limit
-  pub fixed_unordered : {x : FlowBudget} {r : Charged} → o ≡ ordering.Over x → r ≡ charged_in o → Fixed y l b m m₁ t t' r
-  fixed_unordered {x} {r} e q = record {
-    charges = λ code parameter s f fresh. over ∙ sym (over_then l b (postorder_charges code) (rounds_charges code parameter y.words)
-        (sym (search-charges f p) ∙ ap charged_in e));
-    sets = λ code parameter s f fresh left u. absurd (over-not_ok (sym over ∙ u));
-    others = λ left u. absurd (over-not_ok (sym over ∙ u));
-    edges = λ left u. absurd (over-not_ok (sym over ∙ u));
-    rows = λ left u. absurd (over-not_ok (sym over ∙ u));
+  pub fixed_unordered : {x : OverWork} → Searched y l b m m₁ (Err x) → Fixed y l b m m₁ t t' (Err x)
+  fixed_unordered p = record {
+    charges = λ code parameter s f fresh.
+        sym (over_then l b (postorder_charges code) (rounds_charges code parameter y.words) (searched_over f p));
+    sets = λ code parameter s f fresh left u. absurd (over-not_ok u);
+    others = λ left u. absurd (over-not_ok u);
+    edges = λ left u. absurd (over-not_ok u);
+    rows = λ left u. absurd (over-not_ok u);
   }
-    where
-      over : r ≡ Over x
-      over = q ∙ ap charged_in e
 
   -- it was met, and the answer of both rounds is that of all
-  pub fixed_on : {n : ℕ} {left : FlowBudget} {m' : Mem} {r : Charged} → o ≡ ordering.Ok n left → RoundsDone y l left n m₁ m' t t' r
+  pub fixed_on : {n : ℕ} {left : FlowBudget} {m' : Mem} {r : Charged} → Searched y l b m m₁ (Ok (n, left)) → RoundsDone y l left n m₁ m' t t' r
       → Fixed y l b m m' t t' r
-  fixed_on {n} {left} {m'} {r} e q = record {
+  fixed_on p q = record {
     charges = λ code parameter s f fresh.
-        q.charges code parameter s (flows-still kept f) (order_searched f p e) fresh
-        ∙ sym (met_then l b (postorder_charges code) (rounds_charges code parameter y.words) (sym (search-charges f p) ∙ ap charged_in e));
-    sets = λ code parameter s f fresh last u. q.sets code parameter s (flows-still kept f) (order_searched f p e) fresh last u;
+        q.charges code parameter s (flows-still kept f) (order_searched f p) fresh
+        ∙ sym (met_then l b (postorder_charges code) (rounds_charges code parameter y.words) (searched_met f p));
+    sets = λ code parameter s f fresh last u. q.sets code parameter s (flows-still kept f) (order_searched f p) fresh last u;
     others = λ last u k lt.
         q.others last u k (λ v. omega arith) (λ v. omega arith) (λ v. omega arith) (λ v. omega arith) ∙ kept.low k lt;
     edges = λ last u k lo hi.
@@ -165,9 +171,9 @@ pub flowing-some : {y : Layout} {m : Mem} → Flowing y m → 0 < y.blocks
 flowing-some h = some_block h.2 h.3
 
 -- both rounds: the graph and its order
-pub ready_searched : {y : Layout} {l : Limits} {b : FlowBudget} {m m' : Mem} {o : Ordered} {n : ℕ} {left : FlowBudget} → Flowing y m
-    → Searched y l b m m' o → o ≡ ordering.Ok n left → Ready y n m'
-ready_searched h p e = (h.0, h.1, h.2, flows-still (still-searched p) h.3, order_searched h.3 p e)
+pub ready_searched : {y : Layout} {l : Limits} {b : FlowBudget} {m m' : Mem} {n : ℕ} {left : FlowBudget} → Flowing y m
+    → Searched y l b m m' (Ok (n, left)) → Ready y n m'
+ready_searched h p = (h.0, h.1, h.2, flows-still (still-searched p) h.3, order_searched h.3 p)
 
 -- a round: these seed it
 pub ready_seedable : {y : Layout} {n : ℕ} {m : Mem} → Sized (scratch_widths y) m → Ready y n m → Seedable y m n
@@ -190,20 +196,20 @@ module _ {y : Layout} (s : List ℕ) (room : Room y (length s)) where
   seedable_as h = ready_seedable (scratch_sized s room) h
 
   -- and requires again
-  pub seedable_again : {d : Direction} {l : Limits} {b : FlowBudget} {n : ℕ} {m t t' : Mem} {r : Charged} {left : FlowBudget}
-      → Propagated d y l b n m (scratch y s) t t' r → r ≡ Ok left → Ready y n m → Seedable y (scratch y s) n
-  seedable_again p e h = ready_seedable (scratch_sized s room) (ready_round p e h)
+  pub seedable_again : {d : Direction} {l : Limits} {b : FlowBudget} {n : ℕ} {m t t' : Mem} {left : FlowBudget}
+      → Propagated d y l b n m (scratch y s) t t' (Ok left) → Ready y n m → Seedable y (scratch y s) n
+  seedable_again p h = ready_seedable (scratch_sized s room) (ready_round p refl h)
 
   module _ (fits : (i : ℕ) → get_or s i 0 < 2 ^ 64) where
     -- the first round crossed the limit
-    pub rounds_over_as : {l : Limits} {b : FlowBudget} {n : ℕ} {m₁ t t₁ : Mem} {c : Charged} {x : FlowBudget}
-        → Propagated Initialization y l b n (scratch y s) m₁ t t₁ c → c ≡ Over x → RoundsDone y l b n (scratch y s) m₁ t t₁ c
-    rounds_over_as p e = rounds_over (scratch_sized s room) (rows-of_words s room fits) p e
+    pub rounds_over_as : {l : Limits} {b : FlowBudget} {n : ℕ} {m₁ t t₁ : Mem} {x : OverWork}
+        → Propagated Initialization y l b n (scratch y s) m₁ t t₁ (Err x) → RoundsDone y l b n (scratch y s) m₁ t t₁ (Err x)
+    rounds_over_as p = rounds_over (scratch_sized s room) (rows-of_words s room fits) p refl
 
     -- it was met, and the second followed
     pub rounds_on_as : (s₁ : List ℕ) → Room y (length s₁) → ((i : ℕ) → get_or s₁ i 0 < 2 ^ 64)
-        → {l : Limits} {b : FlowBudget} {n : ℕ} {m' t t₁ t' : Mem} {c r : Charged} {left : FlowBudget}
-        → Propagated Initialization y l b n (scratch y s) (scratch y s₁) t t₁ c → c ≡ Ok left
+        → {l : Limits} {b : FlowBudget} {n : ℕ} {m' t t₁ t' : Mem} {r : Charged} {left : FlowBudget}
+        → Propagated Initialization y l b n (scratch y s) (scratch y s₁) t t₁ (Ok left)
         → Propagated Liveness y l left n (scratch y s₁) m' t₁ t' r → RoundsDone y l b n (scratch y s) m' t t' r
-    rounds_on_as s₁ room₁ fits₁ p e q =
-        rounds_on (scratch_sized s room) (rows-of_words s room fits) p e (scratch_sized s₁ room₁) (rows-of_words s₁ room₁ fits₁) q
+    rounds_on_as s₁ room₁ fits₁ p q =
+        rounds_on (scratch_sized s room) (rows-of_words s room fits) p refl (scratch_sized s₁ room₁) (rows-of_words s₁ room₁ fits₁) q

@@ -14,8 +14,8 @@ use Rattle.dataflow.proofs.FlowGraph.{init_entry_row, live_entry_row}
 use Rattle.dataflow.proofs.Lists.{every_ext, some_ext}
 use Rattle.budget.specs.declared.FlowBudget.{FlowBudget}
 use Rattle.budget.specs.declared.Limits.{Limits}
-use Rattle.budget.specs.declared.Charged.{Charged}
-use Rattle.budget.specs.declared.Charged.TheVariants.{Ok}
+use Rattle.std.specs.Prelude.{Ok}
+use Rattle.budget.specs.Budget.{Charged}
 use Rattle.memory.specs.Cells.{Mem, cell}
 use Rattle.memory.specs.Names.{parameters_row}
 use Rattle.sizes.specs.declared.Layout.{Layout}

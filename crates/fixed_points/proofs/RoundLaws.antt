@@ -24,9 +24,9 @@ use Rattle.dataflow.proofs.Simulation.{Each, seen, run_seen}
 use Rattle.dataflow.proofs.Worklist.{run_more, run_fuel}
 use Rattle.budget.specs.declared.FlowBudget.{FlowBudget}
 use Rattle.budget.specs.declared.Limits.{Limits}
-use Rattle.budget.specs.declared.Charged.{Charged}
-use Rattle.budget.specs.declared.Charged.TheVariants.{Ok, Over}
-use Rattle.budget.specs.Budget.{charged}
+use Rattle.budget.specs.declared.OverWork.{OverWork}
+use Rattle.std.specs.Prelude.{Ok, Err}
+use Rattle.budget.specs.Budget.{Charged, charged}
 use Rattle.budget.proofs.BudgetLaws.{over_then}
 use Rattle.memory.specs.Cells.{Mem, cell}
 use Rattle.memory.specs.Names.{order_cell, reachable_cell}
@@ -127,8 +127,8 @@ trace-same words {r} {r'} {e} {e'} er ee (x ∷ l) = ap₂ (λ (a b : List ℕ).
         ap₂ (λ (z u : List ℕ). (words * (length z + 3) + 1) ∷ replicate (length u) 1) (er b) (ee b)
 
 -- a round whose charges crossed the limit crosses it at the same sum, however many more visits are allowed
-longer_over : (d : Direction) (y : Layout) (l : Limits) (b : FlowBudget) (n : ℕ) (m t : Mem) (k j : ℕ) {x : FlowBudget}
-    → charged l b (round_charges d y k n m t) ≡ Over x → charged l b (round_charges d y (k + j) n m t) ≡ Over x
+longer_over : (d : Direction) (y : Layout) (l : Limits) (b : FlowBudget) (n : ℕ) (m t : Mem) (k j : ℕ) {x : OverWork}
+    → charged l b (round_charges d y k n m t) ≡ Err x → charged l b (round_charges d y (k + j) n m t) ≡ Err x
 unfolding round_charges round_run
 longer_over d y l b n m t k j {x} e =
     let more = longer_charges d y l m t k j (beginning d y n m t) in
@@ -265,7 +265,7 @@ module _ {code : List Instruction} {parameter : ℕ → Bool} {y : Layout} {m : 
       pub round_charges_lem : r ≡ charged l b (propagate_charges code parameter y.words (direction_of d))
       round_charges_lem = go r refl ∙ sym (ap (charged l b) result-charges)
         where
-          over : (x : FlowBudget) → r ≡ Over x → Dec (suc l.work ≤ all) → Over x ≡ charged l b (round_charges d y all n m t)
+          over : (x : OverWork) → r ≡ Err x → Dec (suc l.work ≤ all) → Err x ≡ charged l b (round_charges d y all n m t)
           over x e (yes le) =
               let q : all ≡ suc l.work + (all - suc l.work) = omega arith in
               sym (ap (λ (k : ℕ). charged l b (round_charges d y k n m t)) q
@@ -277,7 +277,7 @@ module _ {code : List Instruction} {parameter : ℕ → Bool} {y : Layout} {m : 
 
           go : (c : Charged) → r ≡ c → r ≡ charged l b (round_charges d y all n m t)
           go (Ok left) e = p.charges ∙ ap (charged l b) (same-charges (suc l.work) (ended-all (suc l.work) (p.ended left e)))
-          go (Over x) e = e ∙ over x e (dec_le (suc l.work) all)
+          go (Err x) e = e ∙ over x e (dec_le (suc l.work) all)
 
       -- a round that was met leaves the sets that the defined run ends with
       pub round_sets : (left : FlowBudget) → r ≡ Ok left → (c i : ℕ) → c < y.blocks → i < 64 * y.words

@@ -1,6 +1,6 @@
 -- `fixed_points` of solver.rs over the words: for whatever code the words hold, its charges and both sets of every block are those of the
 -- defined run.
-use Rattle.std.specs.Prelude.{◌≡◌, Bool, true, false, List, ℕ, ◌*◌, ◌≤◌, ◌<◌}
+use Rattle.std.specs.Prelude.{◌≡◌, Bool, true, false, List, ℕ, ◌*◌, ◌≤◌, ◌<◌, Ok}
 use Rattle.bitset.specs.Sets.{member}
 use Rattle.dataflow.specs.Analyses.{initialization, liveness}
 use Rattle.dataflow.specs.Code.{Instruction}
@@ -10,9 +10,7 @@ use Rattle.dataflow.specs.Results.{result}
 use Rattle.dataflow.specs.Charges.{fixed_points_charges}
 use Rattle.budget.specs.declared.FlowBudget.{FlowBudget}
 use Rattle.budget.specs.declared.Limits.{Limits}
-use Rattle.budget.specs.declared.Charged.{Charged}
-use Rattle.budget.specs.declared.Charged.TheVariants.{Ok}
-use Rattle.budget.specs.Budget.{charged}
+use Rattle.budget.specs.Budget.{Charged, charged}
 use Rattle.memory.specs.Cells.{Mem, cell}
 use Rattle.memory.specs.Names.{order_cell, successor_cell, state_row, parameters_row, initialized_row, live_row}
 use Rattle.sizes.specs.declared.Layout.{Layout}

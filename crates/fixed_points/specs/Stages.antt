@@ -1,12 +1,10 @@
 -- What stands between the three stages of `fixed_points`: the order that the search leaves, and what both rounds then do.
-use Rattle.std.specs.Prelude.{◌≡◌, Bool, List, ℕ, length, take}
+use Rattle.std.specs.Prelude.{◌≡◌, Bool, List, ℕ, length, take, Ok}
 use Rattle.dataflow.specs.Code.{Instruction}
 use Rattle.dataflow.specs.Results.{searched, postorder}
 use Rattle.budget.specs.declared.FlowBudget.{FlowBudget}
 use Rattle.budget.specs.declared.Limits.{Limits}
-use Rattle.budget.specs.declared.Charged.{Charged}
-use Rattle.budget.specs.declared.Charged.TheVariants.{Ok}
-use Rattle.budget.specs.Budget.{charged}
+use Rattle.budget.specs.Budget.{Charged, charged}
 use Rattle.memory.specs.Cells.{Mem, cell}
 use Rattle.memory.specs.Names.{order_cell, ring_cell, queued_cell, state_row, live_state_row}
 use Rattle.sizes.specs.declared.Layout.{Layout}

@@ -4,12 +4,10 @@
 ghost use Rattle.std.specs.Prelude.{◌≡◌, ◌-◌, ◌^◌, ◌<◌, length};
 ghost use Rattle.memory.specs.Scratch.{scratch, Room};
 ghost use Rattle.memory.specs.Sets.{sets, SetsRoom};
-ghost use Rattle.order.specs.Postorder.{charged_in};
 ghost use Rattle.fixed_points.specs.FixedPoints.{Fixed};
 ghost use Rattle.fixed_points.specs.Stages.{Flowing, Ready, RoundsDone};
 
-use budget::{Charged, FlowBudget, Limits};
-use order::Ordered;
+use budget::{FlowBudget, Limits, OverWork};
 use sizes::Layout;
 use transfer::direction::Direction;
 
@@ -19,14 +17,11 @@ pub fn fixed_points(
     y: Layout,
     limits: Limits,
     budget: FlowBudget,
-) -> Charged
+) -> Result<FlowBudget, OverWork>
     requires { Room y (length s.old) × SetsRoom y (length t.old) × Flowing y (scratch y s.old) × (limits.work < 2 ^ 64 - 1) }
     ensures { Fixed y limits budget (scratch y s.old) (scratch y s.new) (sets y t.old) (sets y t.new) result }
 {
-    let o = order::postorder(s, y, limits, budget);
-    let Ordered::Ok(n, left) = o else {
-        return unordered(o);
-    };
+    let (n, left) = order::postorder(s, y, limits, budget)?;
     rounds(s, t, y, n, limits, left)
 }
 
@@ -38,23 +33,10 @@ fn rounds(
     n: usize,
     limits: Limits,
     budget: FlowBudget,
-) -> Charged
+) -> Result<FlowBudget, OverWork>
     requires { Room y (length s.old) × SetsRoom y (length t.old) × Ready y n (scratch y s.old) × (limits.work < 2 ^ 64 - 1) }
     ensures { RoundsDone y limits budget n (scratch y s.old) (scratch y s.new) (sets y t.old) (sets y t.new) result }
 {
-    let c = propagate::propagate(s, t, y, Direction::Initialization, n, limits, budget);
-    let Charged::Ok(left) = c else {
-        return c;
-    };
+    let left = propagate::propagate(s, t, y, Direction::Initialization, n, limits, budget)?;
     propagate::propagate(s, t, y, Direction::Liveness, n, limits, left)
-}
-
-// The answer where the search crossed the limit.
-fn unordered(o: Ordered) -> Charged
-    ensures { result ≡ charged_in o }
-{
-    match o {
-        Ordered::Ok(_, b) => Charged::Ok(b),
-        Ordered::Over(b) => Charged::Over(b),
-    }
 }

@@ -17,13 +17,12 @@ use Rattle.memory.proofs.FrameLaws.{only_none, only_then}
 use Rattle.memory.proofs.ScratchLaws.{sized_blocks}
 use Rattle.budget.specs.declared.FlowBudget.{FlowBudget}
 use Rattle.budget.specs.declared.Limits.{Limits}
-use Rattle.budget.specs.declared.Charged.TheVariants as charging
+use Rattle.budget.specs.declared.OverWork.{OverWork}
+use Rattle.std.specs.Prelude.{Result, Ok, Err}
 use Rattle.budget.specs.Budget.{charged}
 use Rattle.budget.proofs.BudgetLaws.{charged-none, met_then, over_then}
 use Rattle.edges.specs.Edges.{marked, Holds}
-use Rattle.order.specs.declared.Ordered.{Ordered}
-use Rattle.order.specs.declared.Ordered.TheVariants.{Ok, Over}
-use Rattle.order.specs.Postorder.{searched_from, search_charges, charged_in, search_cells, Searched}
+use Rattle.order.specs.Postorder.{searched_from, search_charges, search_cells, Searched}
 use Rattle.order.specs.Turns.{stack_of, search_of, turned, Good, Begun, Turned, Resumed}
 use Rattle.order.proofs.SearchEnd.{search_step, search_stop, turns_step, turns_stop, turn_left, all_turns_lem}
 use Rattle.order.proofs.FrameLaws.{frame_at, frames-none, stack_top, holds_kept, rest_below}
@@ -69,7 +68,7 @@ module _ (next : ℕ → List ℕ) (y : Layout) (l : Limits) (b : FlowBudget) wh
           w.charges
           ∙ ap (λ (n : ℕ). charged l left (replicate n 1)) (ap (λ (n : ℕ). turns next n d) one ∙ turns_step next d f fs e after)
 
-      pub way_more : (left' : FlowBudget) → charged l left (1 ∷ []) ≡ charging.Ok left' → (d' : Search) → d' ≡ turned next d
+      pub way_more : (left' : FlowBudget) → charged l left (1 ∷ []) ≡ Ok left' → (d' : Search) → d' ≡ turned next d
           → Way d' left' (turn + 1)
       way_more left' q d' t = subst (λ (x : Search). Way x left' (turn + 1)) (sym t) (record {
         fuel = omega (arith, w.fuel, one);
@@ -77,28 +76,27 @@ module _ (next : ℕ → List ℕ) (y : Layout) (l : Limits) (b : FlowBudget) wh
         charges = spent ∙ met_then l left (1 ∷ []) (replicate (turns next after (turned next d)) 1) q;
       })
 
-      pub way_over : (left' : FlowBudget) → charged l left (1 ∷ []) ≡ charging.Over left'
-          → charged l b (turn_charges next y.blocks) ≡ charging.Over left'
-      way_over left' q = spent ∙ over_then l left (1 ∷ []) (replicate (turns next after (turned next d)) 1) q
+      pub way_over : {e : OverWork} → charged l left (1 ∷ []) ≡ Err e → charged l b (turn_charges next y.blocks) ≡ Err e
+      way_over q = spent ∙ over_then l left (1 ∷ []) (replicate (turns next after (turned next d)) 1) q
 
     -- with an empty stack
     module _ (e : d.stack ≡ []) where
       pub way_whole : d ≡ searched_from next y.blocks
       way_whole = sym (search_stop next d e (turns_left next d)) ∙ w.whole
 
-      pub way_met : charged l b (turn_charges next y.blocks) ≡ charging.Ok left
+      pub way_met : charged l b (turn_charges next y.blocks) ≡ Ok left
       way_met =
           w.charges ∙ ap (λ (n : ℕ). charged l left (replicate n 1)) (turns_stop next d e (turns_left next d)) ∙ charged-none l left
 
 -- ---- the words, for whatever graph they hold
 
 -- a charge of the search crossed the limit
-searched-crossed : (y : Layout) (l : Limits) (b : FlowBudget) (m m' : Mem) (left : FlowBudget) (r : Ordered) → r ≡ Over left → Only search_cells NoRow m m'
-    → ((next : ℕ → List ℕ) → Holds next y m → charged l b (search_charges next y.blocks) ≡ charging.Over left) → Searched y l b m m' r
-searched-crossed y l b m m' left r o only crossed = record {
-  charges = λ next holds. ap charged_in o ∙ sym (crossed next holds);
-  order = λ next holds n c e. let a : ◌≡◌ {A = ℕ} 0 1 = cc in absurd (omega arith);
-  len = λ next holds n c e. let a : ◌≡◌ {A = ℕ} 0 1 = cc in absurd (omega arith);
+searched-crossed : (y : Layout) (l : Limits) (b : FlowBudget) (m m' : Mem) {e : OverWork} → Only search_cells NoRow m m'
+    → ((next : ℕ → List ℕ) → Holds next y m → charged l b (search_charges next y.blocks) ≡ Err e) → Searched y l b m m' (Err e)
+searched-crossed y l b m m' only crossed = record {
+  charges = crossed;
+  order = λ next holds. tt;
+  len = λ next holds. tt;
   only = only;
 }
 
@@ -125,7 +123,7 @@ module _ (y : Layout) (l : Limits) (b : FlowBudget) (m₀ : Mem) where
       below next holds i lt =
           rw (flags next) (rest_below holds (word m stack_block_cell (top - 1)) (word m stack_edge_cell (top - 1)) (g.good.blocks (top - 1) (omega arith)) i lt)
 
-      pub going_more : (m' : Mem) (left' : FlowBudget) (top' len' : ℕ) → charged l left (1 ∷ []) ≡ charging.Ok left'
+      pub going_more : (m' : Mem) (left' : FlowBudget) (top' len' : ℕ) → charged l left (1 ∷ []) ≡ Ok left'
           → Turned y m m' top len top' len' → Going m' left' top' len' (turn + 1)
       going_more m' left' top' len' q t = record {
         good = t.good;
@@ -136,26 +134,23 @@ module _ (y : Layout) (l : Limits) (b : FlowBudget) (m₀ : Mem) where
             (t.turns next (holds_kept g.only holds));
       }
 
-      pub going_over : (left' : FlowBudget) → charged l left (1 ∷ []) ≡ charging.Over left' → (r : Ordered) → r ≡ Over left'
-          → Resumed y l b m₀ m r
-      going_over left' q r o b₀ e =
-          searched-crossed y l b₀ m₀ m left' r o g.only (λ next holds.
-          met_then l b₀ ((3 * y.blocks) ∷ []) (turn_charges next y.blocks) e
+      pub going_over : {e : OverWork} → charged l left (1 ∷ []) ≡ Err e → Resumed y l b m₀ m (Err e)
+      going_over q b₀ first =
+          searched-crossed y l b₀ m₀ m g.only (λ next holds.
+          met_then l b₀ ((3 * y.blocks) ∷ []) (turn_charges next y.blocks) first
           ∙ way_over next y l b (search_of next m top len) left turn (g.way next holds) (frame_at next m (top - 1)) (stack_of next m (top - 1))
-          (stack_top next m top h) (below next holds) left' q)
+          (stack_top next m top h) (below next holds) q)
 
-    going_end : ((next : ℕ → List ℕ) → Holds next y m₀ → (search_of next m top len).stack ≡ []) → Resumed y l b m₀ m (Ok len left)
+    going_end : ((next : ℕ → List ℕ) → Holds next y m₀ → (search_of next m top len).stack ≡ []) → Resumed y l b m₀ m (Ok (len, left))
     going_end stop b₀ e = record {
       charges = λ next holds.
-          sym (met_then l b₀ ((3 * y.blocks) ∷ []) (turn_charges next y.blocks) e
-          ∙ way_met next y l b (search_of next m top len) left turn (g.way next holds) (stop next holds));
-      order = λ next holds n c q.
-          let same : len ≡ n = cc in
-          rw (← same) (sym (reverse-reverse (take len (cell m order_cell))) ∙ ap (λ (d : Search). reverse d.finished) (end next holds));
-      len = λ next holds n c q.
-          let same : len ≡ n = cc in
-          rw (← same) (sym (length-reverse (take len (cell m order_cell)) ∙ length-take-le len (cell m order_cell) fit)
-          ∙ ap (λ (d : Search). length d.finished) (end next holds));
+          met_then l b₀ ((3 * y.blocks) ∷ []) (turn_charges next y.blocks) e
+          ∙ way_met next y l b (search_of next m top len) left turn (g.way next holds) (stop next holds);
+      order = λ next holds.
+          sym (reverse-reverse (take len (cell m order_cell))) ∙ ap (λ (d : Search). reverse d.finished) (end next holds);
+      len = λ next holds.
+          sym (length-reverse (take len (cell m order_cell)) ∙ length-take-le len (cell m order_cell) fit)
+          ∙ ap (λ (d : Search). length d.finished) (end next holds);
       only = g.only;
     }
       where
@@ -166,23 +161,23 @@ module _ (y : Layout) (l : Limits) (b : FlowBudget) (m₀ : Mem) where
         fit = rw (sized_blocks y z order_cell (omega arith) (omega arith)) (omega (arith, good_room y m z g.good))
 
     -- no frame is left
-    pub going_empty : top ≡ 0 → Resumed y l b m₀ m (Ok len left)
+    pub going_empty : top ≡ 0 → Resumed y l b m₀ m (Ok (len, left))
     going_empty e = going_end (λ next holds. rw e (frames-none next _ _))
 
     -- a turn for each block and each edge was taken
-    pub going_full : 3 * y.blocks + y.extra ≤ turn → Resumed y l b m₀ m (Ok len left)
+    pub going_full : 3 * y.blocks + y.extra ≤ turn → Resumed y l b m₀ m (Ok (len, left))
     going_full h =
         going_end (λ next holds. none_left next (search_of next m top len)
         (omega (arith, (g.way next holds).fuel, all_turns_lem next y.blocks, holds.few)))
 
 -- ---- the whole: the first charge crosses the limit, or the search goes on from words that hold the same graph
-pub searched-over : (y : Layout) (l : Limits) (b : FlowBudget) (m : Mem) (left : FlowBudget)
-    → charged l b ((3 * y.blocks) ∷ []) ≡ charging.Over left → (r : Ordered) → r ≡ Over left → Searched y l b m m r
-searched-over y l b m left q r o =
-    searched-crossed y l b m m left r o (only_none m)
+pub searched-over : (y : Layout) (l : Limits) (b : FlowBudget) (m : Mem) {e : OverWork} → charged l b ((3 * y.blocks) ∷ []) ≡ Err e
+    → Searched y l b m m (Err e)
+searched-over y l b m q =
+    searched-crossed y l b m m (only_none m)
     (λ next holds. over_then l b ((3 * y.blocks) ∷ []) (turn_charges next y.blocks) q)
 
-pub searched-kept : (y : Layout) (l : Limits) (b : FlowBudget) (m₀ m m' : Mem) (r : Ordered) → Only search_cells NoRow m₀ m → Searched y l b m m' r
+pub searched-kept : (y : Layout) (l : Limits) (b : FlowBudget) (m₀ m m' : Mem) (r : Result (ℕ × FlowBudget) OverWork) → Only search_cells NoRow m₀ m → Searched y l b m m' r
     → Searched y l b m₀ m' r
 searched-kept y l b m₀ m m' r k s = record {
   charges = λ next holds. s.charges next (holds_kept k holds);

@@ -1,5 +1,5 @@
 -- The depth-first search of solver.rs `postorder`, over the words of scratch.
-use Rattle.std.specs.Prelude.{◌≡◌, List, [], ◌∷◌, reverse, ℕ, ◌*◌, length, replicate, take}
+use Rattle.std.specs.Prelude.{◌≡◌, List, [], ◌∷◌, reverse, ℕ, ◌*◌, length, replicate, take, Result, IfOk}
 use Rattle.dataflow.specs.Search.{Search, search, search_from, turns, all_turns}
 use Rattle.memory.specs.Cells.{Mem, cell}
 use Rattle.memory.specs.Frame.{Only, NoRow}
@@ -7,12 +7,9 @@ use Rattle.memory.specs.Names.{order_cell, stack_block_cell, stack_edge_cell, vi
 use Rattle.sizes.specs.declared.Layout.{Layout}
 use Rattle.budget.specs.declared.FlowBudget.{FlowBudget}
 use Rattle.budget.specs.declared.Limits.{Limits}
-use Rattle.budget.specs.declared.Charged.{Charged}
-use Rattle.budget.specs.declared.Charged.TheVariants as charging
-use Rattle.budget.specs.Budget.{charged}
+use Rattle.budget.specs.declared.OverWork.{OverWork}
+use Rattle.budget.specs.Budget.{charged, ChargedAs}
 use Rattle.edges.specs.Edges.{Holds}
-use Rattle.order.specs.declared.Ordered.{Ordered}
-use Rattle.order.specs.declared.Ordered.TheVariants.{Ok, Over}
 
 -- the search from block 0 of n blocks, to its end
 abbrev pub searched_from : (ℕ → List ℕ) → ℕ → Search
@@ -22,21 +19,15 @@ searched_from next n = search next (all_turns next n) (search_from next n 0)
 abbrev pub search_charges : (ℕ → List ℕ) → ℕ → List ℕ
 search_charges next n = (3 * n) ∷ replicate (turns next (all_turns next n) (search_from next n 0)) 1
 
--- the budget of an answer
-abbrev pub charged_in : Ordered → Charged
-charged_in (Ok n b) = charging.Ok b
-charged_in (Over b) = charging.Over b
-
 -- the cells of the search
 abbrev pub search_cells : List ℕ
 search_cells = order_cell ∷ stack_block_cell ∷ stack_edge_cell ∷ visited_cell ∷ []
 
 -- what `postorder` does, for whatever graph the words hold: its charges, and if they are met, how many blocks it found, and these in postorder
 -- at the front of ORDER; four cells change
-pub record Searched (y : Layout) (l : Limits) (b : FlowBudget) (m m' : Mem) (r : Ordered) : Type 0 where
-  pub charges : (next : ℕ → List ℕ) → Holds next y m → charged_in r ≡ charged l b (search_charges next y.blocks)
-  pub order : (next : ℕ → List ℕ) → Holds next y m → (n : ℕ) (left : FlowBudget) → r ≡ Ok n left
-      → take n (cell m' order_cell) ≡ reverse (searched_from next y.blocks).finished
-  pub len : (next : ℕ → List ℕ) → Holds next y m → (n : ℕ) (left : FlowBudget) → r ≡ Ok n left
-      → n ≡ length (searched_from next y.blocks).finished
+pub record Searched (y : Layout) (l : Limits) (b : FlowBudget) (m m' : Mem) (r : Result (ℕ × FlowBudget) OverWork) : Type 0 where
+  pub charges : (next : ℕ → List ℕ) → Holds next y m → ChargedAs r (charged l b (search_charges next y.blocks))
+  pub order : (next : ℕ → List ℕ) → Holds next y m
+      → IfOk r (λ p. take p.0 (cell m' order_cell) ≡ reverse (searched_from next y.blocks).finished)
+  pub len : (next : ℕ → List ℕ) → Holds next y m → IfOk r (λ p. p.0 ≡ length (searched_from next y.blocks).finished)
   pub only : Only search_cells NoRow m m'

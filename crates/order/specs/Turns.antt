@@ -1,5 +1,5 @@
 -- The search that the words of scratch stand for, and what each part of `postorder` makes of it.
-use Rattle.std.specs.Prelude.{◌≡◌, List, [], ◌∷◌, map, reverse, ℕ, zero, suc, ◌+◌, ◌-◌, ◌*◌, ◌≤◌, ◌<◌, get_or, take, drop}
+use Rattle.std.specs.Prelude.{◌≡◌, List, [], ◌∷◌, map, reverse, ℕ, zero, suc, ◌+◌, ◌-◌, ◌*◌, ◌≤◌, ◌<◌, get_or, take, drop, Result, Ok}
 use Rattle.dataflow.specs.Search.{Frame, Search, look, advance, on_top, search_from}
 use Rattle.memory.specs.Cells.{Mem, cell, word}
 use Rattle.memory.specs.Frame.{Only, NoRow}
@@ -8,10 +8,9 @@ use Rattle.dataflow.specs.Lists.{flag}
 use Rattle.sizes.specs.declared.Layout.{Layout}
 use Rattle.budget.specs.declared.FlowBudget.{FlowBudget}
 use Rattle.budget.specs.declared.Limits.{Limits}
-use Rattle.budget.specs.declared.Charged.TheVariants as charging
+use Rattle.budget.specs.declared.OverWork.{OverWork}
 use Rattle.budget.specs.Budget.{charged}
 use Rattle.edges.specs.Edges.{marked, Holds, Held}
-use Rattle.order.specs.declared.Ordered.{Ordered}
 use Rattle.order.specs.Postorder.{search_cells, Searched}
 
 -- how many words are marks
@@ -76,5 +75,5 @@ abbrev pub Looked : Layout → Mem → Mem → ℕ → ℕ → Type 0
 Looked y m m' top top' = (len : ℕ) → Good y m top len → Turned y m m' top len top' len
 
 -- `search`: what `postorder` does with any budget of which the first charge leaves `left`
-abbrev pub Resumed : Layout → Limits → FlowBudget → Mem → Mem → Ordered → Type 0
-Resumed y l left m m' r = (b : FlowBudget) → charged l b ((3 * y.blocks) ∷ []) ≡ charging.Ok left → Searched y l b m m' r
+abbrev pub Resumed : Layout → Limits → FlowBudget → Mem → Mem → Result (ℕ × FlowBudget) OverWork → Type 0
+Resumed y l left m m' r = (b : FlowBudget) → charged l b ((3 * y.blocks) ∷ []) ≡ Ok left → Searched y l b m m' r

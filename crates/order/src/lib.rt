@@ -1,8 +1,8 @@
 // `postorder` of solver.rs: a depth-first search from block 0, one charge a turn, over the words of scratch.
 #![tactic(auto)]
 
-ghost use Rattle.std.specs.Prelude.{◌≡◌, ◌<◌, ◌≤◌, length, replicate};
-ghost use Rattle.memory.specs.Cells.{cell, store_cell};
+ghost use Rattle.std.specs.Prelude.{◌<◌, ◌≤◌, length};
+ghost use Rattle.memory.specs.Cells.{cell};
 ghost use Rattle.memory.specs.Frame.{Only, NoRow};
 ghost use Rattle.memory.specs.Names.{visited_cell};
 ghost use Rattle.memory.specs.Scratch.{scratch, Room};
@@ -10,33 +10,28 @@ ghost use Rattle.edges.specs.Edges.{Held};
 ghost use Rattle.order.specs.Postorder.{search_cells, Searched};
 ghost use Rattle.order.specs.Turns.{marks, Good, Begun, Facing, Entered, Turned, Looked, Resumed};
 
-use budget::{Charged, FlowBudget, Limits};
+use budget::{FlowBudget, Limits, OverWork};
 use memory::layout;
 use sizes::Layout;
 
-// How many blocks are in the order and the budget to go on with, or the one that crossed the limit.
-#[derive(Clone, Copy)]
-pub enum Ordered {
-    Ok(usize, FlowBudget),
-    Over(FlowBudget),
-}
-
 // How many frames are on the stack, and how many blocks are finished.
 #[derive(Clone, Copy)]
-pub struct Walk {
-    pub top: usize,
-    pub len: usize,
+struct Walk {
+    top: usize,
+    len: usize,
 }
 
-// The blocks that a path from block 0 reaches, in postorder.
-pub fn postorder(s: &mut [u64], y: Layout, limits: Limits, budget: FlowBudget) -> Ordered
+// The blocks that a path from block 0 reaches, in postorder: how many there are, and the budget to go on with.
+pub fn postorder(
+    s: &mut [u64],
+    y: Layout,
+    limits: Limits,
+    budget: FlowBudget,
+) -> Result<(usize, FlowBudget), OverWork>
     requires { Room y (length s.old) × (0 < y.blocks) × Held y (scratch y s.old) }
     ensures { Searched y limits budget (scratch y s.old) (scratch y s.new) result }
 {
-    let c = budget.charge(3 * y.blocks as u64, limits);
-    let Charged::Ok(left) = c else {
-        return Ordered::Over(c.budget());
-    };
+    let left = budget.charge(3 * y.blocks as u64, limits)?;
     start(s, y);
     search(s, y, limits, left)
 }
@@ -46,59 +41,48 @@ fn start(s: &mut [u64], y: Layout)
     requires { Room y (length s.old) × (0 < y.blocks) }
     ensures { Begun y (scratch y s.new) × Only search_cells NoRow (scratch y s.old) (scratch y s.new) }
 {
-    clear_visited(s, y);
+    memory::scratch::clear(s, y, layout::VISITED);
     memory::scratch::put(s, y, layout::VISITED, 0, 1);
     memory::scratch::put(s, y, layout::STACK_BLOCK, 0, 0);
     memory::scratch::put(s, y, layout::STACK_EDGE, 0, 0);
 }
 
-// No block is visited.
-fn clear_visited(s: &mut [u64], y: Layout)
-    requires { Room y (length s.old) }
-    ensures { scratch y s.new ≡ store_cell (scratch y s.old) visited_cell (replicate y.blocks 0) }
-{
-    memory::scratch::clear(s, y, layout::VISITED);
-}
-
 // Turns until the stack is empty: one for each block and one for each edge.
-fn search(s: &mut [u64], y: Layout, limits: Limits, budget: FlowBudget) -> Ordered
+fn search(
+    s: &mut [u64],
+    y: Layout,
+    limits: Limits,
+    budget: FlowBudget,
+) -> Result<(usize, FlowBudget), OverWork>
     requires { Room y (length s.old) × (0 < y.blocks) × Held y (scratch y s.old) × Begun y (scratch y s.old) }
     ensures { Resumed y limits budget (scratch y s.old) (scratch y s.new) result }
 {
     let bound = 3 * y.blocks + y.extra;
     let mut left = budget;
-    let mut top = 1;
-    let mut len = 0;
-    let mut turn = 0;
-    while turn < bound {
-        if top == 0 {
-            return Ordered::Ok(len, left);
+    let mut walk = Walk { top: 1, len: 0 };
+    for _turn in 0..bound {
+        if walk.top == 0 {
+            break;
         }
-        let c = left.charge(1, limits);
-        let Charged::Ok(b) = c else {
-            return Ordered::Over(c.budget());
-        };
-        left = b;
-        let w = advance(s, y, top, len);
-        top = w.top;
-        len = w.len;
-        turn += 1;
+        left = left.charge(1, limits)?;
+        walk = advance(s, y, walk);
     }
-    Ordered::Ok(len, left)
+    Ok((walk.len, left))
 }
 
 // One turn with the frame on top: its next edge, or, if there is none, the block is finished.
-fn advance(s: &mut [u64], y: Layout, top: usize, len: usize) -> Walk
-    requires { Room y (length s.old) × (0 < top) × Held y (scratch y s.old) × Good y (scratch y s.old) top len }
-    ensures { Turned y (scratch y s.old) (scratch y s.new) top len result.top result.len }
+fn advance(s: &mut [u64], y: Layout, walk: Walk) -> Walk
+    requires { Room y (length s.old) × (0 < walk.top) × Held y (scratch y s.old) × Good y (scratch y s.old) walk.top walk.len }
+    ensures { Turned y (scratch y s.old) (scratch y s.new) walk.top walk.len result.top result.len }
 {
+    let Walk { top, len } = walk;
     let block = memory::scratch::get(s, y, layout::STACK_BLOCK, top - 1) as usize;
     let edge = memory::scratch::get(s, y, layout::STACK_EDGE, top - 1) as usize;
     let n = memory::scratch::get(s, y, layout::SUCCESSOR_COUNT, block) as usize;
     if edge < n {
         return Walk {
             top: look(s, y, block, n, edge, top),
-            len: len,
+            len,
         };
     }
     memory::scratch::put(s, y, layout::ORDER, len, block as u64);

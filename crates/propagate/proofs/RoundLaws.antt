@@ -9,9 +9,9 @@ use Rattle.dataflow.specs.Worklist as worklist
 use Rattle.dataflow.proofs.Worklist.{run_more}
 use Rattle.budget.specs.declared.FlowBudget.{FlowBudget}
 use Rattle.budget.specs.declared.Limits.{Limits}
-use Rattle.budget.specs.declared.Charged.{Charged}
-use Rattle.budget.specs.declared.Charged.TheVariants.{Ok, Over}
-use Rattle.budget.specs.Budget.{charged}
+use Rattle.budget.specs.declared.OverWork.{OverWork}
+use Rattle.std.specs.Prelude.{Ok, Err}
+use Rattle.budget.specs.Budget.{Charged, over, charged}
 use Rattle.budget.proofs.BudgetLaws.{met_then, over_then, over-not_ok, met-one}
 use Rattle.memory.specs.Cells.{Mem, cell, store_cell}
 use Rattle.memory.specs.Names.{order_cell, queued_cell, reachable_cell, ring_cell}
@@ -26,12 +26,10 @@ use Rattle.bitset.specs.Below.{AllBelow}
 use Rattle.transfer.specs.declared.direction.Direction.{Direction}
 use Rattle.transfer.specs.declared.direction.Direction.TheVariants.{Initialization, Liveness}
 use Rattle.solver.specs.declared.ring.Ring.{Ring}
-use Rattle.solver.specs.declared.ring.Turn.{Turn}
-use Rattle.solver.specs.declared.ring.Turn.TheVariants.{Stop, Done}
-use Rattle.solver.specs.Run.{At, Out, stop, on, at_of, out_of, paid, run, Good, Idle, queue_of, in_ring, cleared, seeded, full}
+use Rattle.solver.specs.Run.{At, Out, stop, on, Turn, at_of, out_of, paid, run, Good, Idle, queue_of, in_ring, cleared, seeded, full}
 use Rattle.memory.proofs.EdgeLaws.{connected_kept}
 use Rattle.solver.proofs.SeedLaws.{queue_length}
-use Rattle.propagate.specs.Rounds.{row_solver, beginning, round_run, round_charges, charged_of, Seedable, Propagated}
+use Rattle.propagate.specs.Rounds.{row_solver, beginning, round_run, round_charges, Seedable, Propagated}
 use Rattle.bitset.proofs.Below.{below-append}
 use Rattle.propagate.proofs.RingWords.{ring_words, ring_none, ring_full, sum-marks, below_at, below-reverse, below-drop}
 use Rattle.propagate.proofs.RingWords.{below-zeros, below-take}
@@ -146,9 +144,14 @@ module _ (d : Direction) {y : Layout} {n : ℕ} {m : Mem} (z : Sized (scratch_wi
 
 -- ---- the answers
 
+-- that of the visits as that of the round
+abbrev pub charged_of : Turn → Charged
+charged_of (Ok p) = Ok p.1
+charged_of (Err e) = Err e
+
 -- the charges of the round crossed the limit
-propagated_crossed : {d : Direction} {y : Layout} {l : Limits} {b : FlowBudget} {n : ℕ} {m m' t t' : Mem} {x : FlowBudget}
-    → charged l b (round_charges d y (suc l.work) n m t) ≡ Over x → Propagated d y l b n m m' t t' (Over x)
+propagated_crossed : {d : Direction} {y : Layout} {l : Limits} {b : FlowBudget} {n : ℕ} {m m' t t' : Mem} {x : OverWork}
+    → charged l b (round_charges d y (suc l.work) n m t) ≡ Err x → Propagated d y l b n m m' t t' (Err x)
 propagated_crossed e = record {
   charges = sym e;
   ended = λ left q. absurd (over-not_ok q);
@@ -158,8 +161,8 @@ propagated_crossed e = record {
 }
 
 -- so they did where the charge of the seeding did
-pub propagated_over : {d : Direction} {y : Layout} {l : Limits} {b : FlowBudget} {n : ℕ} {m m' t t' : Mem} {x : FlowBudget}
-    → charged l b ((y.blocks + n) ∷ []) ≡ Over x → Propagated d y l b n m m' t t' (Over x)
+pub propagated_over : {d : Direction} {y : Layout} {l : Limits} {b : FlowBudget} {n : ℕ} {m m' t t' : Mem} {x : OverWork}
+    → charged l b ((y.blocks + n) ∷ []) ≡ Err x → Propagated d y l b n m m' t t' (Err x)
 unfolding round_charges
 propagated_over {y = y} {l = l} {b = b} {n = n} e = propagated_crossed (over_then l b ((y.blocks + n) ∷ []) _ e)
 
@@ -201,7 +204,7 @@ module _ (d : Direction) (y : Layout) (l : Limits) (b left : FlowBudget) (n : �
   all-charges = met_then l b ((y.blocks + n) ∷ []) (charges_of d y l m t long) met
 
   -- a charge of the visits crossed the limit
-  crossed-there : {x : FlowBudget} → charged l left follows.charges ≡ Over x → charged l b (round_charges d y (suc l.work) n m t) ≡ Over x
+  crossed-there : {x : OverWork} → charged l left follows.charges ≡ Err x → charged l b (round_charges d y (suc l.work) n m t) ≡ Err x
   crossed-there e = all-charges ∙ ap (charged l left) further.1 ∙ over_then l left follows.charges further.0 e
 
   -- ---- the run went to its end
@@ -250,10 +253,10 @@ module _ (d : Direction) (y : Layout) (l : Limits) (b left : FlowBudget) (n : �
 
       go : (r : Turn) (c : Charged) → charged l left follows.charges ≡ c → out_of m' t' r ≡ paid c (λ b'. on follows.at b')
           → Idle (out_of m' t' r) → Propagated d y l b n m m' t t' (charged_of r)
-      go (Stop x) (Ok x') q e i = absurd (true≢false (ap stopped e))
-      go (Stop x) (Over x') q e i = propagated_crossed (crossed-there (q ∙ ap Over (sym (ap left_of e))))
-      go (Done g x) (Ok x') q e i = met_all (q ∙ ap Ok (sym (ap left_of e))) (ap (at_in (at_of m' t' g)) e) i
-      go (Done g x) (Over x') q e i = absurd (false≢true (ap stopped e))
+      go (Err x) (Ok x') q e i = absurd (true≢false (ap stopped e))
+      go (Err x) (Err x') q e i = propagated_crossed (crossed-there (q ∙ ap over (sym (ap left_of e))))
+      go (Ok p) (Ok x') q e i = met_all (q ∙ ap {B = Charged} (λ (x : FlowBudget). Ok x) (sym (ap left_of e))) (ap (at_in (at_of m' t' p.0)) e) i
+      go (Ok p) (Err x') q e i = absurd (false≢true (ap stopped e))
 
 -- the visits over the words are those of the worklist run, whatever they answer
 pub propagated_on : {d : Direction} {y : Layout} {l : Limits} {b left : FlowBudget} {n : ℕ} {m t : Mem} → Sized (scratch_widths y) m
@@ -270,17 +273,15 @@ pub seeded_good-as : (d : Direction) {y : Layout} {n : ℕ} {m m₁ : Mem} → S
 seeded_good-as d {y} {n} z h e = subst (λ (x : Mem). Good y x (full n)) (sym e) (seeded_good d z h)
 
 -- the charge of the seeding crossed the limit
-pub propagated_over_as : {d : Direction} {y : Layout} {l : Limits} {b : FlowBudget} {n : ℕ} {m m' t t' : Mem} {c : Charged} {x : FlowBudget}
-    → c ≡ charged l b ((y.blocks + n) ∷ []) → c ≡ Over x → Propagated d y l b n m m' t t' c
+pub propagated_over_as : {d : Direction} {y : Layout} {l : Limits} {b : FlowBudget} {n : ℕ} {m m' t t' : Mem} {c : Charged} {x : OverWork}
+    → c ≡ charged l b ((y.blocks + n) ∷ []) → c ≡ Err x → Propagated d y l b n m m' t t' c
 propagated_over_as {d} {y} {l} {b} {n} {m} {m'} {t} {t'} e q =
     subst (λ (k : Charged). Propagated d y l b n m m' t t' k) (sym q) (propagated_over (sym e ∙ q))
 
 -- it was met, and the visits followed
-pub propagated_as : {d : Direction} {y : Layout} {l : Limits} {b left : FlowBudget} {n : ℕ} {m m₁ m' t t' : Mem} (r : Turn) {c : Charged}
+pub propagated_as : {d : Direction} {y : Layout} {l : Limits} {b left : FlowBudget} {n : ℕ} {m m₁ m' t t' : Mem} (r : Turn)
     → Sized (scratch_widths y) m → Sized (sets_widths y) t → Seedable y m n → charged l b ((y.blocks + n) ∷ []) ≡ Ok left → m₁ ≡ seeded d y n m
-    → out_of m' t' r ≡ run d y l (l.work + 1 - left.work) (at_of m₁ t (full n)) left → Idle (out_of m' t' r) → c ≡ charged_of r
-    → Propagated d y l b n m m' t t' c
-propagated_as {d} {y} {l} {b} {left} {n} {m} {m₁} {m'} {t} {t'} r z zt h met em er i ec =
-    subst (λ (x : Charged). Propagated d y l b n m m' t t' x) (sym ec)
-    (propagated_on z zt h met (met-one l b (y.blocks + n) met).1 m' t' r
-    (er ∙ ap (λ (x : Mem). run d y l (l.work + 1 - left.work) (at_of x t (full n)) left) em) i)
+    → out_of m' t' r ≡ run d y l (l.work + 1 - left.work) (at_of m₁ t (full n)) left → Idle (out_of m' t' r) → Propagated d y l b n m m' t t' (charged_of r)
+propagated_as {d} {y} {l} {b} {left} {n} {m' = m'} {t = t} {t' = t'} r z zt h met em er i =
+    propagated_on z zt h met (met-one l b (y.blocks + n) met).1 m' t' r
+    (er ∙ ap (λ (x : Mem). run d y l (l.work + 1 - left.work) (at_of x t (full n)) left) em) i

@@ -16,9 +16,8 @@ use Rattle.dataflow.specs.Charges.{trace_charges, visit_charges}
 use Rattle.dataflow.proofs.Worklist.{run_stop, run_go}
 use Rattle.budget.specs.declared.FlowBudget.{FlowBudget}
 use Rattle.budget.specs.declared.Limits.{Limits}
-use Rattle.budget.specs.declared.Charged.{Charged}
-use Rattle.budget.specs.declared.Charged.TheVariants.{Ok, Over}
-use Rattle.budget.specs.Budget.{charged, and_charged}
+use Rattle.std.specs.Prelude.{Ok, Err}
+use Rattle.budget.specs.Budget.{Charged, charged, and_charged}
 use Rattle.budget.proofs.BudgetLaws.{charged-none, charged-append}
 use Rattle.memory.specs.Cells.{Mem, cell, store_cell}
 use Rattle.memory.specs.Names.{ring_cell}
@@ -61,12 +60,12 @@ paid-append l cs ds f b = go (charged l b cs) ∙ ap (λ (c : Charged). paid c f
   where
     go : (c : Charged) → paid c (λ b'. paid (charged l b' ds) f) ≡ paid (and_charged c (λ b'. charged l b' ds)) f
     go (Ok b') = refl
-    go (Over b') = refl
+    go (Err e) = refl
 
 -- what follows is the same for every budget
 paid-same : (c : Charged) (f g : FlowBudget → Out) → ((b : FlowBudget) → f b ≡ g b) → paid c f ≡ paid c g
 paid-same (Ok b) f g e = e b
-paid-same (Over b) f g e = refl
+paid-same (Err x) f g e = refl
 
 -- one charge for each block told
 pub told-paid : (y : Layout) (l : Limits) (cs : List ℕ) (s : At) (b : FlowBudget)
@@ -119,7 +118,7 @@ module _ (d : Direction) (y : Layout) (l : Limits) (m₀ t₀ : Mem) where
 
       go : (c : Charged) → onward (paid c (λ b'. on a.at b')) g ≡ paid c (λ b'. paid (charged l b' b.charges) (λ b''. on b.at b''))
       go (Ok x) = b.is x
-      go (Over x) = refl
+      go (Err x) = refl
 
   -- ---- a visit
   module _ (h₀ : Connected y m₀) where

@@ -1,23 +1,19 @@
 -- A round of `propagate` is the worklist run of `dataflow` over rows of words. Of scratch it reads only what the round leaves alone, so m is
 -- scratch as it was at the beginning.
-use Rattle.std.specs.Prelude.{List, [], ◌∷◌, map, ◌≡◌, ℕ, suc, ◌+◌, ◌≤◌, ◌<◌, eqb, get_or, take}
+use Rattle.std.specs.Prelude.{List, [], ◌∷◌, map, ◌≡◌, ℕ, suc, ◌+◌, ◌≤◌, ◌<◌, eqb, get_or, take, Ok}
 use Rattle.bitset.specs.Operations.{meet, join, same}
 use Rattle.dataflow.specs.Lists.{pick, tabulate, sum}
 use Rattle.dataflow.specs.Worklist as worklist
 use Rattle.dataflow.specs.Charges.{trace_charges}
 use Rattle.budget.specs.declared.FlowBudget.{FlowBudget}
 use Rattle.budget.specs.declared.Limits.{Limits}
-use Rattle.budget.specs.declared.Charged.{Charged}
-use Rattle.budget.specs.declared.Charged.TheVariants.{Ok, Over}
-use Rattle.budget.specs.Budget.{charged}
+use Rattle.budget.specs.Budget.{Charged, charged}
 use Rattle.memory.specs.Cells.{Mem, cell, word}
 use Rattle.memory.specs.Names.{order_cell, queued_cell, reachable_cell, ring_cell}
 use Rattle.sizes.specs.declared.Layout.{Layout}
 use Rattle.edges.specs.Edges.{marked}
 use Rattle.transfer.specs.declared.direction.Direction.{Direction}
 use Rattle.transfer.specs.declared.direction.Direction.TheVariants.{Initialization, Liveness}
-use Rattle.solver.specs.declared.ring.Turn.{Turn}
-use Rattle.solver.specs.declared.ring.Turn.TheVariants.{Stop, Done}
 use Rattle.memory.specs.Edges.{neighbors, Connected}
 use Rattle.transfer.specs.Directions.{reads_of, dependents_of}
 use Rattle.transfer.specs.Transfer.{running_row, kept_row, entry_of, transferred}
@@ -62,11 +58,6 @@ round_run d y k n m t = worklist.run (row_solver d y m) k (beginning d y n m t)
 unfoldable pub round_charges : Direction → Layout → ℕ → ℕ → Mem → Mem → List ℕ
 round_charges d y k n m t =
     (y.blocks + n) ∷ trace_charges y.words (neighbors (reads_of d) m) (neighbors (dependents_of d) m) (round_run d y k n m t).trace
-
--- the answer of the visits as that of the round
-abbrev pub charged_of : Turn → Charged
-charged_of (Stop b) = Over b
-charged_of (Done g b) = Ok b
 
 -- what `propagate` may rely on: a graph, and an order of n blocks, no more than are reachable
 pub record Seedable (y : Layout) (m : Mem) (n : ℕ) : Type 0 where

@@ -4,11 +4,11 @@
 ghost use Rattle.std.specs.Prelude.{◌≡◌, ◌-◌, ◌^◌, ◌<◌, length};
 ghost use Rattle.memory.specs.Scratch.{scratch, Room};
 ghost use Rattle.memory.specs.Sets.{sets, SetsRoom};
-ghost use Rattle.propagate.specs.Rounds.{Seedable, Propagated, charged_of};
+ghost use Rattle.propagate.specs.Rounds.{Seedable, Propagated};
 
-use budget::{Charged, FlowBudget, Limits};
+use budget::{FlowBudget, Limits, OverWork};
 use sizes::Layout;
-use solver::ring::{Ring, Turn};
+use solver::ring::Ring;
 use solver::{drain, seed};
 use transfer::direction::Direction;
 
@@ -21,24 +21,12 @@ pub fn propagate(
     n: usize,
     limits: Limits,
     budget: FlowBudget,
-) -> Charged
+) -> Result<FlowBudget, OverWork>
     requires { Room y (length s.old) × SetsRoom y (length t.old) × Seedable y (scratch y s.old) n × (limits.work < 2 ^ 64 - 1) }
     ensures { Propagated d y limits budget n (scratch y s.old) (scratch y s.new) (sets y t.old) (sets y t.new) result }
 {
-    let c = budget.charge(y.blocks as u64 + n as u64, limits);
-    let Charged::Ok(left) = c else {
-        return c;
-    };
+    let left = budget.charge(y.blocks as u64 + n as u64, limits)?;
     seed::seed(s, y, d, n);
-    ended(drain::drain(s, t, y, Ring { head: 0, count: n }, d, limits, left))
-}
-
-// The answer of the visits as that of the round.
-fn ended(r: Turn) -> Charged
-    ensures { result ≡ charged_of r }
-{
-    match r {
-        Turn::Stop(b) => Charged::Over(b),
-        Turn::Done(_, b) => Charged::Ok(b),
-    }
+    let (_, rest) = drain::drain(s, t, y, Ring { head: 0, count: n }, d, limits, left)?;
+    Ok(rest)
 }

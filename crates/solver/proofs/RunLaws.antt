@@ -9,9 +9,9 @@ use borrow.Author.Tests.{eq-eqb, ne_eqb}
 use Rattle.bitset.specs.Operations.{same}
 use Rattle.budget.specs.declared.FlowBudget.{FlowBudget}
 use Rattle.budget.specs.declared.Limits.{Limits}
-use Rattle.budget.specs.declared.Charged.{Charged}
-use Rattle.budget.specs.declared.Charged.TheVariants.{Ok, Over}
-use Rattle.budget.specs.Budget.{charged}
+use Rattle.budget.specs.declared.OverWork.{OverWork}
+use Rattle.std.specs.Prelude.{Ok, Err}
+use Rattle.budget.specs.Budget.{Charged, charged}
 use Rattle.budget.proofs.BudgetLaws.{met-one}
 use Rattle.memory.specs.Cells.{Mem, cell, word, store, store_cell}
 use Rattle.memory.specs.Names.{queued_cell, ring_cell}
@@ -20,12 +20,10 @@ use Rattle.sizes.specs.declared.Layout.{Layout}
 use Rattle.memory.proofs.CellLaws.{Sized}
 use Rattle.transfer.specs.declared.direction.Direction.{Direction}
 use Rattle.solver.specs.declared.ring.Ring.{Ring}
-use Rattle.solver.specs.declared.ring.Turn.{Turn}
-use Rattle.solver.specs.declared.ring.Turn.TheVariants.{Stop, Done}
 use Rattle.memory.specs.Edges.{neighbors}
 use Rattle.transfer.specs.Directions.{dependents_of}
 use Rattle.transfer.specs.Transfer.{running_row, kept_row, computed}
-use Rattle.solver.specs.Run.{At, Out, stop, on, at_of, out_of, paid, onward, offered, told, settled, popped, visit_charge, visited, run}
+use Rattle.solver.specs.Run.{At, Out, stop, on, at_of, paid, onward, offered, told, settled, popped, visit_charge, visited, run}
 use Rattle.solver.specs.Run.{Good, Went, Offers, Tells, wrap}
 use Rattle.memory.proofs.EdgeLaws.{SameEdges, same_none, same_then}
 use Rattle.transfer.proofs.TransferLaws.{running-at}
@@ -83,13 +81,12 @@ module _ {y : Layout} {l : Limits} {m₀ : Mem} {g₀ : Ring} {b₀ : FlowBudget
         kept = offers_kept y m z hd r.good o
 
     -- the charge crossed the limit
-    pub telling_over : {d : ℕ} {cs : List ℕ} {x : FlowBudget} {o : Turn} → ds ≡ d ∷ cs → charged l b (1 ∷ []) ≡ Over x → o ≡ Stop x
-        → Tells y l es m₀ g₀ b₀ m o
-    telling_over {d} {cs} e ec eo = λ t.
-        rw eo (sym (ap (λ (a : Charged). paid a (λ z. told y l cs (offered y d (at_of m t g)) z)) ec) ∙ paying e t, tt)
+    pub telling_over : {d : ℕ} {cs : List ℕ} {x : OverWork} → ds ≡ d ∷ cs → charged l b (1 ∷ []) ≡ Err x → Tells y l es m₀ g₀ b₀ m (Err x)
+    telling_over {d} {cs} e ec = λ t.
+        (sym (ap (λ (a : Charged). paid a (λ z. told y l cs (offered y d (at_of m t g)) z)) ec) ∙ paying e t, tt)
 
     -- all are told
-    pub telling_all : ds ≡ [] → Tells y l es m₀ g₀ b₀ m (Done g b)
+    pub telling_all : ds ≡ [] → Tells y l es m₀ g₀ b₀ m (Ok (g, b))
     unfolding told
     telling_all e = λ t. (
       sym (ap (λ (xs : List ℕ). told y l xs (at_of m t g) b) e) ∙ r.same t,
@@ -114,7 +111,7 @@ module _ (d : Direction) (y : Layout) (l : Limits) (c : ℕ) (m t : Mem) (g : Ri
 module _ (d : Direction) (y : Layout) (l : Limits) (m t : Mem) (g : Ring) (b : FlowBudget) {c : ℕ} {m₁ : Mem}
     (ec : c ≡ word m ring_cell g.head) (em : m₁ ≡ store m queued_cell c 0) where
   -- its charge crossed the limit
-  pub visited_over : {x : FlowBudget} → charged l b (visit_charge d y m₁ c ∷ []) ≡ Over x → visited d y l (at_of m t g) b ≡ stop x
+  pub visited_over : {x : OverWork} → charged l b (visit_charge d y m₁ c ∷ []) ≡ Err x → visited d y l (at_of m t g) b ≡ stop x.budget
   unfolding visited
   visited_over r = rw (← ec, ← em, r) refl
 
@@ -138,11 +135,6 @@ visit-good d y m z g c hc good {m₁} {h = h} x e₁ e₂ eh =
 pub went-less : (y : Layout) (l : Limits) (w v : ℕ) (o : Out) → v ≤ w → Went y l w o → Went y l v o
 went-less y l w v (stop b) h t = tt
 went-less y l w v (on s b) h t = (t.0, omega (arith, t.1), t.2)
-
--- an answer that stops the run
-pub stops : (y : Layout) (l : Limits) (w : ℕ) (m t : Mem) {o : Turn} {r : Out} {x : FlowBudget} → o ≡ Stop x → r ≡ stop x
-    → (out_of m t o ≡ r) × Went y l w (out_of m t o)
-stops y l w m t eo er = rw (eo, er) (refl, tt)
 
 -- ---- the visits
 module _ (d : Direction) (y : Layout) (l : Limits) (n : ℕ) (s : At) (b : FlowBudget) where

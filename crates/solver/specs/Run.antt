@@ -1,20 +1,17 @@
 -- The run of solver.rs `propagate` over the words: the ring, its marks and the rows, with every charge.
-use Rattle.std.specs.Prelude.{List, [], ◌∷◌, ◌++◌, reverse, ◌≡◌, ℕ, zero, suc, ◌+◌, ◌*◌, ◌-◌, ◌≤◌, ◌<◌, eqb, ltb, take, drop, replicate}
+use Rattle.std.specs.Prelude.{List, [], ◌∷◌, ◌++◌, reverse, ◌≡◌, ℕ, zero, suc, ◌+◌, ◌*◌, ◌-◌, ◌≤◌, ◌<◌, eqb, ltb, take, drop, replicate, Result, Ok, Err}
 use Rattle.bitset.specs.Operations.{same}
 use Rattle.dataflow.specs.Lists.{pick, sum}
 use Rattle.budget.specs.declared.FlowBudget.{FlowBudget}
 use Rattle.budget.specs.declared.Limits.{Limits}
-use Rattle.budget.specs.declared.Charged.{Charged}
-use Rattle.budget.specs.declared.Charged.TheVariants.{Ok, Over}
-use Rattle.budget.specs.Budget.{charged}
+use Rattle.budget.specs.declared.OverWork.{OverWork}
+use Rattle.budget.specs.Budget.{Charged, charged}
 use Rattle.memory.specs.Cells.{Mem, cell, word, store, store_cell}
 use Rattle.memory.specs.Names.{order_cell, queued_cell, reachable_cell, ring_cell}
 use Rattle.sizes.specs.declared.Layout.{Layout}
 use Rattle.transfer.specs.declared.direction.Direction.{Direction}
 use Rattle.transfer.specs.declared.direction.Direction.TheVariants.{Initialization, Liveness}
 use Rattle.solver.specs.declared.ring.Ring.{Ring}
-use Rattle.solver.specs.declared.ring.Turn.{Turn}
-use Rattle.solver.specs.declared.ring.Turn.TheVariants.{Stop, Done}
 use Rattle.memory.specs.Edges.{count_of, neighbors, Connected}
 use Rattle.transfer.specs.Directions.{reads_of, dependents_of}
 use Rattle.transfer.specs.Transfer.{running_row, kept_row, computed}
@@ -33,14 +30,18 @@ pub data Out : Type 0 where
 abbrev pub at_of : Mem → Mem → Ring → At
 at_of m t g = record { mem = m; sets = t; ring = g }
 
--- what an answer of the code says, with the buffers as they then are
+-- an answer of the code: the ring and the budget to go on with, or the charge that crossed the limit
+abbrev pub Turn : Type 0
+Turn = Result (Ring × FlowBudget) OverWork
+
+-- what it says, with the buffers as they then are
 abbrev pub out_of : Mem → Mem → Turn → Out
-out_of m t (Stop b) = stop b
-out_of m t (Done g b) = on (at_of m t g) b
+out_of m t (Ok p) = on (at_of m t p.0) p.1
+out_of m t (Err e) = stop e.budget
 
 abbrev pub paid : Charged → (FlowBudget → Out) → Out
 paid (Ok b) f = f b
-paid (Over b) f = stop b
+paid (Err e) f = stop e.budget
 
 abbrev pub onward : Out → (At → FlowBudget → Out) → Out
 onward (stop b) f = stop b

@@ -1,5 +1,5 @@
 // The blocks whom a change of a block concerns: successors by their number, predecessors along their chain of edges. One loop serves both, and
-// the compiler takes the choice out of it.
+// the compiler takes the choice out of it. It takes them step by step: an iterator over them would hold the words that an offer writes.
 ghost use Rattle.std.specs.Prelude.{◌≡◌, ◌<◌, length};
 ghost use Rattle.memory.specs.Edges.{count_of};
 ghost use Rattle.memory.specs.Scratch.{scratch, Room};

@@ -7,9 +7,9 @@ ghost use Rattle.memory.specs.Edges.{neighbors, Connected};
 ghost use Rattle.transfer.specs.Directions.{dependents_of};
 ghost use Rattle.solver.specs.Run.{at_of, out_of, Tells, settled, visit_charge, visited, run, Good, Went, Idle};
 
-use crate::ring::{Ring, Turn};
+use crate::ring::Ring;
 use crate::{dependents, ring};
-use budget::{Charged, FlowBudget, Limits};
+use budget::{FlowBudget, Limits, OverWork};
 use memory::{edges, layout};
 use sizes::Layout;
 use transfer::compute;
@@ -24,27 +24,21 @@ fn tell(
     block: usize,
     limits: Limits,
     budget: FlowBudget,
-) -> Turn
+) -> Result<(Ring, FlowBudget), OverWork>
     requires { Room y (length s.old) × (block < y.blocks) × Good y (scratch y s.old) from × (budget.work ≤ limits.work) × (limits.work < 2 ^ 64 - 1) }
     ensures { Tells y limits (neighbors (dependents_of d) (scratch y s.old) block) (scratch y s.old) from budget (scratch y s.new) result }
 {
     let n = dependents::count(s, y, d, block) as usize;
-    let mut g = from;
+    let mut waiting = from;
     let mut left = budget;
     let mut edge = dependents::first(s, y, d, block) as usize;
-    let mut k = 0;
-    while k < n {
-        let c = left.charge(1, limits);
-        let Charged::Ok(b) = c else {
-            return Turn::Stop(c.budget());
-        };
-        left = b;
+    for k in 0..n {
+        left = left.charge(1, limits)?;
         let to = dependents::dependent(s, y, d, block, n, k, edge) as usize;
         edge = dependents::behind(s, y, d, edge) as usize;
-        g = ring::offer(s, y, g, to);
-        k += 1;
+        waiting = ring::offer(s, y, waiting, to);
     }
-    Turn::Done(g, left)
+    Ok((waiting, left))
 }
 
 // The running row against the one that is kept.
@@ -57,14 +51,14 @@ fn settle(
     block: usize,
     limits: Limits,
     budget: FlowBudget,
-) -> Turn
+) -> Result<(Ring, FlowBudget), OverWork>
     requires { Room y (length s.old) × SetsRoom y (length t.old) × (block < y.blocks) × Good y (scratch y s.old) from × (budget.work ≤ limits.work) × (limits.work < 2 ^ 64 - 1) }
     ensures { (out_of (scratch y s.new) (sets y t.new) result ≡ settled d y limits block (at_of (scratch y s.old) (sets y t.old) from) budget) × Went y limits budget.work (out_of (scratch y s.new) (sets y t.new) result) }
 {
     let kept = compute::kept(y, d, block);
     let running = compute::running(y, d);
     if rows::same(t, y, kept, s, running) {
-        return Turn::Done(from, budget);
+        return Ok((from, budget));
     }
     rows::store(t, y, kept, s, running);
     tell(s, y, from, d, block, limits, budget)
@@ -78,7 +72,7 @@ fn charge_visit(
     block: usize,
     limits: Limits,
     budget: FlowBudget,
-) -> Charged
+) -> Result<FlowBudget, OverWork>
     requires { Room y (length s.now) × (block < y.blocks) × Connected y (scratch y s.now) }
     ensures { result ≡ charged limits budget (visit_charge d y (scratch y s.now) block ∷ []) }
 {
@@ -95,7 +89,7 @@ fn visit(
     d: Direction,
     limits: Limits,
     budget: FlowBudget,
-) -> Turn
+) -> Result<(Ring, FlowBudget), OverWork>
     requires { Room y (length s.old) × SetsRoom y (length t.old) × (0 < from.count) × Good y (scratch y s.old) from × (budget.work ≤ limits.work) × (limits.work < 2 ^ 64 - 1) }
     ensures { (out_of (scratch y s.new) (sets y t.new) result ≡ visited d y limits (at_of (scratch y s.old) (sets y t.old) from) budget) × Went y limits (budget.work + 1) (out_of (scratch y s.new) (sets y t.new) result) }
 {
@@ -105,10 +99,7 @@ fn visit(
     };
     let block = memory::scratch::get(s, y, layout::RING, from.head) as usize;
     memory::scratch::put(s, y, layout::QUEUED, block, 0);
-    let c = charge_visit(s, y, d, block, limits, budget);
-    let Charged::Ok(left) = c else {
-        return Turn::Stop(c.budget());
-    };
+    let left = charge_visit(s, y, d, block, limits, budget)?;
     compute::compute(s, t, y, d, block);
     settle(s, t, y, rest, d, block, limits, left)
 }
@@ -123,19 +114,15 @@ pub fn drain(
     d: Direction,
     limits: Limits,
     budget: FlowBudget,
-) -> Turn
+) -> Result<(Ring, FlowBudget), OverWork>
     requires { Room y (length s.old) × SetsRoom y (length t.old) × Good y (scratch y s.old) from × (budget.work ≤ limits.work) × (limits.work < 2 ^ 64 - 1) }
     ensures { (out_of (scratch y s.new) (sets y t.new) result ≡ run d y limits (limits.work + 1 - budget.work) (at_of (scratch y s.old) (sets y t.old) from) budget) × Idle (out_of (scratch y s.new) (sets y t.new) result) }
 {
-    let mut g = from;
+    let mut waiting = from;
     let mut left = budget;
-    while 0 < g.count {
-        let r = visit(s, t, y, g, d, limits, left);
-        let Turn::Done(rest, b) = r else {
-            return r;
-        };
-        g = rest;
-        left = b;
+    // A worklist until it is empty: visits make blocks wait, so there is no range for a `for`.
+    while 0 < waiting.count {
+        (waiting, left) = visit(s, t, y, waiting, d, limits, left)?;
     }
-    Turn::Done(g, left)
+    Ok((waiting, left))
 }

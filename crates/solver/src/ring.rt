@@ -3,7 +3,6 @@ ghost use Rattle.std.specs.Prelude.{◌≡◌, ◌+◌, ◌≤◌, ◌<◌, leng
 ghost use Rattle.memory.specs.Scratch.{scratch, Room};
 ghost use Rattle.solver.specs.Run.{wrap, Pushes, Offers};
 
-use budget::FlowBudget;
 use memory::layout;
 use sizes::Layout;
 
@@ -14,21 +13,11 @@ pub struct Ring {
     pub count: usize,
 }
 
-// A charge crossed the limit, or the run went on.
-#[derive(Clone, Copy)]
-pub enum Turn {
-    Stop(FlowBudget),
-    Done(Ring, FlowBudget),
-}
-
 // A place of the ring: behind the last one comes the first.
 pub fn wrapped(y: Layout, at: usize) -> usize
     ensures { result ≡ wrap y at }
 {
-    if at < y.blocks {
-        return at;
-    }
-    at - y.blocks
+    if at < y.blocks { at } else { at - y.blocks }
 }
 
 // A block joins the ring, with its mark.

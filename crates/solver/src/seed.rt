@@ -30,12 +30,10 @@ fn queue(s: &mut [u64], y: Layout, d: Direction, n: usize)
     requires { Room y (length s.old) × (n ≤ y.blocks) }
     ensures { scratch y s.new ≡ in_ring d n (scratch y s.old) }
 {
-    let mut i = 0;
-    while i < n {
+    for i in 0..n {
         let from = place(d, n, i);
         let block = memory::scratch::get(s, y, layout::ORDER, from);
         memory::scratch::put(s, y, layout::RING, i, block);
-        i += 1;
     }
 }
 

@@ -45,7 +45,7 @@ fn begin_initialized(s: &mut [u64], y: Layout, block: usize)
         rows::copy(s, y, layout::state(y), layout::parameters(y));
         return;
     }
-    rows::fill(s, y, layout::state(y), 18446744073709551615);
+    rows::fill(s, y, layout::state(y), u64::MAX);
 }
 
 // The running row keeps what is initialized at the exit of a predecessor that is reachable.
@@ -77,7 +77,7 @@ fn begin_all(s: &mut [u64], t: &[u64], y: Layout, block: usize)
     ensures { scratch y s.new ≡ store_cell (scratch y s.old) (running_row Initialization y) (gather_one Initialization (scratch y s.old) (sets y t.now) block (replicate y.words ones)) }
 {
     if memory::scratch::get(s, y, layout::REACHABLE, block) == 0 {
-        rows::fill(s, y, layout::state(y), 18446744073709551615);
+        rows::fill(s, y, layout::state(y), u64::MAX);
         return;
     }
     rows::take(s, y, layout::state(y), t, layout::initialized(y, block));
@@ -89,11 +89,9 @@ fn meet_rest(s: &mut [u64], t: &[u64], y: Layout, first: usize, n: usize)
     ensures { scratch y s.new ≡ store_cell (scratch y s.old) (running_row Initialization y) (gather_all Initialization (scratch y s.old) (sets y t.now) (map source_of (chain_from (scratch y s.old) n (next_edge (scratch y s.old) first))) (cell (scratch y s.old) (running_row Initialization y))) }
 {
     let mut edge = first;
-    let mut k = 0;
-    while k < n {
+    for _ in 0..n {
         edge = edges::next(s, y, edge) as usize;
         meet_one(s, t, y, edges::source(edge));
-        k += 1;
     }
 }
 
@@ -117,11 +115,9 @@ fn join_rest(s: &mut [u64], t: &[u64], y: Layout, block: usize, n: usize)
     requires { Room y (length s.old) × SetsRoom y (length t.now) × (block < y.blocks) × (n ≡ word (scratch y s.old) successor_count_cell block) × Connected y (scratch y s.old) }
     ensures { scratch y s.new ≡ store_cell (scratch y s.old) (running_row Liveness y) (gather_all Liveness (scratch y s.old) (sets y t.now) (tabulate 1 (n - 1) (successor_at (scratch y s.old) block)) (cell (scratch y s.old) (running_row Liveness y))) }
 {
-    let mut k = 1;
-    while k < n {
+    for k in 1..n {
         let to = edges::successor(s, y, block, n, k) as usize;
         rows::join_from(s, y, layout::live_state(y), t, layout::live(y, to));
-        k += 1;
     }
 }
 

@@ -4,7 +4,7 @@ ghost use Rattle.transfer.specs.Directions.{reads_of};
 
 use memory::edges::Side;
 
-// `Direction` of solver.rs.
+// `Direction` of solver.rs, an enum as there.
 #[derive(Clone, Copy)]
 pub enum Direction {
     Initialization,

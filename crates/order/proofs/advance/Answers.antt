@@ -23,28 +23,10 @@ get-n-requires c =
     let p = c.requires in
     (search rules, place_blocks _ _ _ (search rules) (search rules) (rw c.get-block.ensures (p.3.blocks _ (search rules))))
 
-pub look-requires : goal.look-requires
-look-requires c =
-    let p = c.requires in
-    let e = c.get-block.ensures in (
-      p.0,
-      record {
-        frames = p.1;
-        room = omega (arith, p.3.counted);
-        held = p.2;
-        inside = rw e (p.3.blocks _ (search rules));
-        at_block = e;
-        at_edge = c.get-edge.ensures;
-        counted = c.get-n.ensures;
-        left = search rules;
-      },
-    )
-
 pub returns-then-edge-n : goal.returns-then-edge-n
 returns-then-edge-n c =
-    let a = c.args in
     let p = c.requires in
-    c.look.ensures a.len p.3
+    c.look.ensures c.args.walk.len p.3
 
 pub put-requires : goal.put-requires
 put-requires c =

@@ -1,13 +1,8 @@
 -- `order::look` meets its contract: the frame's edge is passed, and what it leads to is entered. Assumes nothing.
 use Rattle.std.proofs.Common.{arith, rules}
 use Rattle.memory.proofs.ScratchLaws.{place_blocks, scratch_sized}
-use Rattle.order.proofs.FrameLaws.{edge_few}
 use Rattle.order.proofs.TurnLaws.{look_room, moved_marks, moved_counted, lead_below, looked}
 use Rattle.order.proofs.look.Goals as goal
-
-pub overflow_add-edge : goal.overflow_add-edge
-overflow_add-edge c =
-    omega (arith, edge_few c.requires.1)
 
 pub put-requires : goal.put-requires
 put-requires c =

@@ -1,27 +1,20 @@
 -- `order::postorder` meets its contract: the first charge is met, then the search runs from block 0. Assumes nothing.
-use Rattle.std.proofs.Common.{sym, ap, ◌∙◌, rules}
-use Rattle.budget.specs.Budget.{budget_of}
-use Rattle.budget.specs.declared.Charged.{Charged}
-use Rattle.order.specs.declared.Ordered.TheVariants.{Over}
+use Rattle.std.proofs.Common.{sym, rules}
+use Rattle.std.proofs.lemmas.Result.{err_from_is_err_and}
 use Rattle.order.proofs.FrameLaws.{held_kept}
 use Rattle.order.proofs.RunLaws.{searched-over, searched-kept}
 use Rattle.order.proofs.postorder.Goals as goal
 
-pub returns-in_default : goal.returns-in_default
-returns-in_default c =
-    searched-over _ _ _ _ c.in_default.field-0 (sym c.charge-c.ensures ∙ c.in_default.is) _
-    (ap Over c.budget.ensures ∙ ap (λ (x : Charged). Over (budget_of x)) c.in_default.is)
+pub returns-in_err-left : goal.returns-in_err-left
+returns-in_err-left c =
+    let p = err_from_is_err_and c.from_residual.result c.from_residual.ensures.1 in
+    rw (p.1, p.2) (searched-over _ _ _ _ (sym c.in_err-left.ensures))
 
 pub search-requires : goal.search-requires
 search-requires c =
-    let a = c.args in
     let p = c.requires in
     let t = c.start.ensures in
     (search rules, search rules, held_kept t.1 p.2, t.0)
 
 pub returns : goal.returns
-returns c =
-    let a = c.args in
-    let q = c.charge-c.ensures in
-    let t = c.start.ensures in
-    searched-kept _ _ _ _ _ _ _ t.1 (c.search.ensures a.budget (sym q ∙ c.in-Ok.is))
+returns c = searched-kept _ _ _ _ _ _ _ c.start.ensures.1 (c.search.ensures c.args.budget (sym c.in_ok-left.ensures))

@@ -1,6 +1,6 @@
-use Rattle.std.proofs.Common.{List, ◌≡◌, ℕ, ◌-◌, ◌≤◌, length, replicate}
+use Rattle.std.proofs.Common.{List, ◌≡◌, ℕ, replicate}
 use Rattle.budget.specs.Budget.{charged}
-use Rattle.budget.specs.declared.Charged.TheVariants.{Ok}
+use Rattle.std.specs.Prelude.{Ok}
 use Rattle.dataflow.specs.Search.{Sweep}
 use Rattle.edges.specs.Edges.{Holds}
 use Rattle.edges.specs.Reachability.{sweep_cells}
@@ -11,10 +11,9 @@ use Rattle.edges.proofs.SweepLaws.{Adding}
 use Rattle.edges.proofs.reachability.push_successors.Given as goal
 
 abbrev pub invariant-loop-k : goal.invariant-loop-k
-invariant-loop-k l =
-    (l.k ≤ l.n) × (length l.s ≡ length l.initial.s) × Only sweep_cells NoRow (scratch l.y l.initial.s) (scratch l.y l.s) × (charged l.limits l.initial.left (replicate l.k 1) ≡ Ok l.left)
-    × ((next : ℕ → List ℕ) → Holds next l.y (scratch l.y l.initial.s) → (r : Sweep) → Sweeps l.y l.initial.high r (scratch l.y l.initial.s) → Adding next l.y l.block l.k l.high r
-    (scratch l.y l.s))
-
-abbrev pub decreases-loop-k : goal.decreases-loop-k
-decreases-loop-k l = l.n - l.k
+invariant-loop-k l = record {
+  only : Only sweep_cells NoRow (scratch l.y l.initial.s) (scratch l.y l.s);
+  paid : charged l.limits l.initial.left (replicate l.k 1) ≡ Ok l.left;
+  adding : (next : ℕ → List ℕ) → Holds next l.y (scratch l.y l.initial.s) → (r : Sweep) → Sweeps l.y l.initial.high r (scratch l.y l.initial.s)
+      → Adding next l.y l.block l.k l.high r (scratch l.y l.s);
+}

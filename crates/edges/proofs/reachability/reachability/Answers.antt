@@ -10,40 +10,23 @@ use Rattle.memory.proofs.ScratchLaws.{scratch_sized, place_blocks}
 use Rattle.edges.proofs.reachability.reachability.Goals as goal
 
 pub put-requires : goal.put-requires
-put-requires c =
-    let args = c.args in
-    let pre = c.requires in
-    (search rules, place_blocks args.y _ _ (omega arith) (omega arith) pre.1)
+put-requires c = (search rules, place_blocks _ _ _ (omega arith) (omega arith) c.requires.1)
 
 pub put-requires-2 : goal.put-requires-2
-put-requires-2 c =
-    let args = c.args in
-    let pre = c.requires in
-    (search rules, place_blocks args.y _ _ (omega arith) (omega arith) pre.1)
+put-requires-2 c = (search rules, place_blocks _ _ _ (omega arith) (omega arith) c.requires.1)
 
 pub sweep-requires : goal.sweep-requires
 sweep-requires c =
     let pre = c.requires in
-    let clear-marks = c.clear_marks in
-    let put = c.put in
-    let put2 = c.put-2 in
-    let y = c.args.y in
-    let h = c.requires.2 in
-    let m = c.clear_marks.new.s in
-    let e = c.clear_marks.ensures in
-    let r : Room y (length m) = rw clear-marks.auto.s pre.0 in
-    let f = search-stored 0 1 0 0 put.ensures put2.ensures in (
+    let e = c.clear.ensures in
+    let r : Room c.args.y (length c.clear.new.s) = rw c.clear.auto.s pre.0 in
+    let f = search-stored 0 1 0 0 c.put.ensures c.put-2.ensures in (
       search rules,
-      (h.0, holds-only (only_then (cleared-only sweep_cells refl e) f) refl refl h.1),
-      begun (scratch_sized m r) pre.1 e.zeros
-          put.ensures put2.ensures,
+      (pre.2.0, holds-only (only_then (cleared-only sweep_cells refl e) f) refl refl pre.2.1),
+      begun (scratch_sized _ r) pre.1 e.zeros c.put.ensures c.put-2.ensures,
     )
 
 pub returns : goal.returns
 returns c =
-    let clear-marks = c.clear_marks in
-    let put = c.put in
-    let put2 = c.put-2 in
-    let sweep = c.sweep in
-    let f = search-stored 0 1 0 0 put.ensures put2.ensures in
-    reached-from (only_then (cleared-only sweep_cells refl clear-marks.ensures) f) sweep.ensures
+    let f = search-stored 0 1 0 0 c.put.ensures c.put-2.ensures in
+    reached-from (only_then (cleared-only sweep_cells refl c.clear.ensures) f) c.sweep.ensures

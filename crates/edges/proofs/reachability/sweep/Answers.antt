@@ -1,8 +1,6 @@
 -- `edges::reachability::sweep` meets its contract. Assumes nothing.
-use Rattle.std.proofs.Common.{refl, ap, ◌∙◌, ◌+◌, ◌-◌, ◌<◌, arith, rules}
-use Rattle.budget.specs.declared.Charged.TheVariants.{Over}
-use Rattle.edges.specs.Stack.{left_of}
-use Rattle.edges.specs.declared.reachability.Pushed.{Pushed}
+use Rattle.std.proofs.Common.{refl, ◌<◌, arith, rules}
+use Rattle.std.proofs.lemmas.Result.{err_from_is_err_and}
 use Rattle.memory.proofs.FrameLaws.{only_none, only_then}
 use Rattle.edges.proofs.EdgeLaws.{holds-only}
 use Rattle.edges.proofs.SweepLaws.{swept-begun, swept_top, swept_high, swept_popped, swept_more, swept_over, swept_empty, swept_out}
@@ -11,81 +9,46 @@ use Rattle.memory.proofs.ScratchLaws.{place_blocks}
 use Rattle.edges.proofs.reachability.sweep.Goals as goal
 
 pub loop-taken-init : goal.loop-taken-init
-loop-taken-init c =
-    (omega arith, refl, only_none _, λ next h. swept-begun c.requires.2)
-
-pub shape_of-s-then-top-eq0 : goal.shape_of-s-then-top-eq0
-shape_of-s-then-top-eq0 c =
-    omega (arith, c.loop-taken.invariant.1)
-
-pub returns-then-top-eq0 : goal.returns-then-top-eq0
-returns-then-top-eq0 c =
-    let l = c.loop-taken in
-    reached_end l.invariant.2 l.invariant.3 (λ next s. swept_empty s c.if-top-eq0.true)
+loop-taken-init c = record { only = only_none _; swept = λ next h. swept-begun c.requires.2 }
 
 pub get-block-requires : goal.get-block-requires
 get-block-requires c =
-    let args = c.args in
-    let l = c.loop-taken in
-    let if1 = c.if-top-eq0 in
-    let h = c.requires.1 in (
-      search rules,
-      place_blocks args.y _ _ (omega arith) (omega arith)
-          (swept_high (l.invariant.3 h.0 h.1) (omega (arith, if1.false))),
-    )
-
-pub push_successors-pushed-requires : goal.push_successors-pushed-requires
-push_successors-pushed-requires c =
-    let l = c.loop-taken in
-    let if1 = c.if-top-eq0 in
-    let get = c.get-block in
     let h = c.requires.1 in
-    let w = l.invariant.3 h.0 h.1 in
-    let some : 0 < l.top = omega (arith, if1.false) in
-    (search rules, rw get.ensures (swept_top w some), (h.0, holds-only l.invariant.2 refl refl h.1), (_, swept_popped w some get.ensures))
+    (search rules, place_blocks _ _ _ (omega arith) (omega arith) (swept_high (c.loop-taken.invariant.swept h.0 h.1) (omega arith)))
 
-pub shape_of-s-in_default : goal.shape_of-s-in_default
-shape_of-s-in_default c =
-    let loop = c.loop-taken in
-    let push-successors = c.push_successors-pushed in
-    omega (arith, loop.invariant.1, push-successors.auto)
-
-pub returns-in_default : goal.returns-in_default
-returns-in_default c =
-    let args = c.args in
+pub push_successors-requires : goal.push_successors-requires
+push_successors-requires c =
     let l = c.loop-taken in
-    let loop-test = c.loop-taken-test in
-    let if1 = c.if-top-eq0 in
-    let get = c.get-block in
-    let crossed = c.crossed in
-    let p = c.push_successors-pushed.ensures in
-    let some : 0 < l.top = omega (arith, if1.false) in
-    reached-over (only_then l.invariant.2 p.only)
-    (λ next h. swept_over (l.invariant.3 next h) some get.ensures {n' = args.y.blocks - (l.taken + 1)}
-    (omega (arith, loop-test.true)) (holds-only l.invariant.2 refl refl h) p c.in_default.is)
-    (crossed.ensures ∙ ap (λ (x : Pushed). Over (left_of x)) c.in_default.is)
+    let h = c.requires.1 in
+    let w = l.invariant.swept h.0 h.1 in
+    let some : 0 < l.top = omega arith in
+    let e = c.get-block.ensures in
+    (search rules, rw e (swept_top w some), (h.0, holds-only l.invariant.only refl refl h.1), (_, swept_popped w some e))
+
+pub returns-in_err-top : goal.returns-in_err-top
+returns-in_err-top c =
+    let l = c.loop-taken in
+    let some : 0 < l.top = omega arith in
+    let p = err_from_is_err_and c.from_residual.result c.from_residual.ensures.1 in
+    rw (p.1, p.2) (reached-over (only_then l.invariant.only c.push_successors.ensures.only)
+    (λ next h. swept_over (l.invariant.swept next h) some c.get-block.ensures (omega arith) (holds-only l.invariant.only refl refl h)
+    c.in_err-top.ensures))
 
 pub loop-taken-preserved : goal.loop-taken-preserved
 loop-taken-preserved c =
     let l = c.loop-taken in
-    let loop-test = c.loop-taken-test in
-    let if1 = c.if-top-eq0 in
-    let get = c.get-block in
-    let push-successors = c.push_successors-pushed in
-    let p = c.push_successors-pushed.ensures in
-    let some : 0 < l.top = omega (arith, if1.false) in (
-      omega (arith, loop-test.true),
-      push-successors.auto.s ∙ l.invariant.1,
-      only_then l.invariant.2 p.only,
-      λ next h. swept_more (l.invariant.3 next h) some get.ensures (omega (arith, loop-test.true)) (holds-only l.invariant.2 refl refl h) p
-          c.in-Ok.is,
-    )
+    let some : 0 < l.top = omega arith in record {
+      only = only_then l.invariant.only c.push_successors.ensures.only;
+      swept = λ next h. swept_more (l.invariant.swept next h) some c.get-block.ensures (omega arith) (holds-only l.invariant.only refl refl h)
+          c.in_ok-top.ensures;
+    }
 
-pub shape_of-s : goal.shape_of-s
-shape_of-s c =
-    omega (arith, c.loop-taken.invariant.1)
+pub returns-after-loop-taken : goal.returns-after-loop-taken
+returns-after-loop-taken c =
+    let l = c.loop-taken.invariant in
+    reached_end l.only l.swept (λ next s. swept_out s (omega arith))
 
-pub returns : goal.returns
-returns c =
-    let l = c.loop-taken in
-    reached_end l.invariant.2 l.invariant.3 (λ next s. swept_out s (omega (arith, c.loop-taken-test)))
+pub returns-then-top-eq0 : goal.returns-then-top-eq0
+returns-then-top-eq0 c =
+    let l = c.loop-taken.invariant in
+    reached_end l.only l.swept (λ next s. swept_empty s c.if-top-eq0.true)

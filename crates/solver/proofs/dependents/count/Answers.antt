@@ -9,11 +9,3 @@ get-requires c =
 pub get-requires-in-Liveness : goal.get-requires-in-Liveness
 get-requires-in-Liveness c =
     (search rules, place_blocks _ _ _ (omega arith) (omega arith) c.requires.1)
-
-pub returns-in-Initialization : goal.returns-in-Initialization
-returns-in-Initialization c =
-    rw c.in-Initialization.is c.get.ensures
-
-pub returns-in-Liveness : goal.returns-in-Liveness
-returns-in-Liveness c =
-    rw c.in-Liveness.is c.get-in-Liveness.ensures

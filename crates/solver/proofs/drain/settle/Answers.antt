@@ -1,20 +1,9 @@
 -- `solver::drain::settle` meets its contract: the same row ends the visit, another is stored and told. Assumes nothing.
-use Rattle.std.proofs.Common.{sym, ◌∙◌, arith, rules}
+use Rattle.std.proofs.Common.{sym, ◌∙◌, arith}
 use Rattle.memory.specs.Scratch.{scratch}
 use Rattle.memory.specs.Sets.{sets}
 use Rattle.solver.proofs.RunLaws.{settled_same, settled_new}
-use Rattle.transfer.proofs.TransferLaws.{running-row, kept_row_lem}
 use Rattle.solver.proofs.drain.settle.Goals as goal
-
-pub same-requires : goal.same-requires
-same-requires c =
-    let a = c.args in
-    let p = c.requires in
-    let kept = c.kept-kept in
-    let running = c.running-running in
-    let y = c.args.y in
-    let d = c.args.d in
-    (search rules, rw kept.ensures (kept_row_lem d y a.block p.2), search rules, rw running.ensures (running-row d y))
 
 pub returns-then-same : goal.returns-then-same
 returns-then-same c =
@@ -25,16 +14,6 @@ returns-then-same c =
     let y = c.args.y in
     let e = rw (kept.ensures, running.ensures) at (sym c.same.ensures ∙ c.if-same.true) in
     (settled_same a.d y a.limits a.block (scratch y a.s.now) (sets y a.t.now) a.from a.budget e, (p.3, omega arith, p.4))
-
-pub store-requires : goal.store-requires
-store-requires c =
-    let a = c.args in
-    let p = c.requires in
-    let kept = c.kept-kept in
-    let running = c.running-running in
-    let y = c.args.y in
-    let d = c.args.d in
-    (search rules, rw kept.ensures (kept_row_lem d y a.block p.2), search rules, rw running.ensures (running-row d y))
 
 pub returns : goal.returns
 returns c =

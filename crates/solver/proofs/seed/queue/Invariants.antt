@@ -1,12 +1,6 @@
-use Rattle.std.proofs.Common.{◌≡◌, ◌-◌, ◌≤◌, length}
 use Rattle.memory.specs.Scratch.{scratch}
 use Rattle.solver.proofs.SeedLaws.{Seeding}
 use Rattle.solver.proofs.seed.queue.Given as goal
 
 abbrev pub invariant-loop-i : goal.invariant-loop-i
-invariant-loop-i l =
-    (l.i ≤ l.n) × (length l.s ≡ length l.initial.s) × Seeding l.d l.n (scratch l.y l.initial.s) l.i (scratch l.y l.s)
-
-abbrev pub decreases-loop-i : goal.decreases-loop-i
-decreases-loop-i l =
-    l.n - l.i
+invariant-loop-i l = Seeding l.d l.n (scratch l.y l.initial.s) l.i (scratch l.y l.s)

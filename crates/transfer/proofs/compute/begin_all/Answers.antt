@@ -42,7 +42,6 @@ returns c =
     let y = c.args.y in
     let t = c.args.t.now in
     let m = scratch y a.s.now in
-    let known = c.shared_slice_known-1 in
     let words = sets_row_words t p.1 (kept_row_lem Initialization y a.block p.2) (λ i. omega (arith, c.type_inv.t i)) in
     rw (state2.ensures, initialized.ensures) at take.ensures
     ∙ ap (store_cell m (state_row y.blocks))

@@ -92,7 +92,6 @@ returns c =
     let join-rest = c.join_rest in
     let lt = sized_among y (scratch_sized s p.0) (running-row Liveness y).high in
     let to = successor_block p.3 a.block p.2 0 (omega (arith, get.ensures, if1.false)) in
-    let known = c.shared_slice_known-1 in
     let words = sets_row_words t p.1 (kept_row_lem Liveness y _ to) (λ i. omega (arith, c.type_inv.t i)) in
     let took = rw (row.ensures, live.ensures, successor.ensures) at take.ensures in
     let same = stored-edges Liveness y _ took in

@@ -9,8 +9,3 @@ returns-in-Initialization c =
     let defines = c.defines in
     let join = c.join in
     rw c.in-Initialization.is (rw (state.ensures, defines.ensures) at join.ensures)
-
-pub returns-in-Liveness : goal.returns-in-Liveness
-returns-in-Liveness c =
-    let transfer-live = c.transfer_live in
-    rw c.in-Liveness.is transfer-live.ensures
