@@ -28,9 +28,8 @@ use Rattle.memory.proofs.FrameLaws.{only_then, only-more, only-cell, only_row}
 use Rattle.memory.proofs.ScratchLaws.{word_put, sized_among, width_row, place_blocks}
 use Rattle.budget.specs.declared.FlowBudget.{FlowBudget}
 use Rattle.budget.specs.declared.Limits.{Limits}
-use Rattle.budget.specs.declared.Charged.{Charged}
-use Rattle.budget.specs.declared.Charged.TheVariants.{Ok}
-use Rattle.budget.specs.Budget.{charged}
+use Rattle.std.specs.Prelude.{Ok}
+use Rattle.budget.specs.Budget.{Charged, charged}
 use Rattle.operands.specs.Kinds.{kind_number, ends_block}
 use Rattle.operands.specs.Patterns.{fits}
 use Rattle.operands.specs.Instructions.{targets_in}

@@ -21,10 +21,9 @@ use Rattle.memory.proofs.CellLaws.{cell-store_same, cell-store_other}
 use Rattle.memory.proofs.FrameLaws.{only_none, only_then, only-more}
 use Rattle.budget.specs.declared.FlowBudget.{FlowBudget}
 use Rattle.budget.specs.declared.Limits.{Limits}
-use Rattle.budget.specs.declared.Charged.{Charged}
-use Rattle.budget.specs.declared.Charged.TheVariants.{Ok, Over}
-use Rattle.budget.specs.Budget.{charged}
-use Rattle.budget.proofs.BudgetLaws.{charged-none, met_then, over_then}
+use Rattle.std.specs.Prelude.{Ok}
+use Rattle.budget.specs.Budget.{Charged, over, charged}
+use Rattle.budget.proofs.BudgetLaws.{charged-none, met_then, over_then, over-not_ok}
 use Rattle.sheet.specs.declared.script.Script.{Script}
 use Rattle.blocks.specs.Blocks.{Ready, Block, Fresh, block_cells, BuiltOne, Built}
 use Rattle.blocks.proofs.TransferLaws.{range-more, range_at}
@@ -135,12 +134,12 @@ module _ {code : List Instruction} {y : Layout} {l : Limits} {budget left : Flow
     only-one_more = only_then g.only (only-more block_cells (RowsBefore y.blocks) refl (λ k lo w. omega arith) o.only)
 
     -- a charge of this block crosses the limit
-    pub built_over : {t t'' : Mem} {x : FlowBudget} → y.blocks ≡ block_count code → r ≡ Over x → Built code y l budget m m'' t t'' r
+    pub built_over : {t t'' : Mem} {x : FlowBudget} → y.blocks ≡ block_count code → r ≡ over x → Built code y l budget m m'' t t'' r
     built_over e f = record {
       charges = f ∙ sym (ap (charged l budget) (charges_at code index (block_count code) (omega arith))
           ∙ met_then l budget _ _ g.charges ∙ over_then l left (map (cost_at code) (body code index)) _ (sym o.charges ∙ f));
-      blocks = λ z q. let w : ◌≡◌ {A = ℕ} 0 1 = cc in absurd (omega arith);
-      fresh = λ z q. let w : ◌≡◌ {A = ℕ} 0 1 = cc in absurd (omega arith);
+      blocks = λ z q. absurd (over-not_ok (sym f ∙ q));
+      fresh = λ z q. absurd (over-not_ok (sym f ∙ q));
       only = only-one_more;
     }
 

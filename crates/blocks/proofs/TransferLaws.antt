@@ -20,10 +20,9 @@ use Rattle.memory.proofs.FrameLaws.{only_none, only_then, only-more, only-cell, 
 use Rattle.memory.proofs.ScratchLaws.{word_put, scratch_count, place_instructions}
 use Rattle.budget.specs.declared.FlowBudget.{FlowBudget}
 use Rattle.budget.specs.declared.Limits.{Limits}
-use Rattle.budget.specs.declared.Charged.{Charged}
-use Rattle.budget.specs.declared.Charged.TheVariants.{Ok, Over}
-use Rattle.budget.specs.Budget.{charged}
-use Rattle.budget.proofs.BudgetLaws.{charged-none, met_then, over_then}
+use Rattle.std.specs.Prelude.{Ok}
+use Rattle.budget.specs.Budget.{Charged, over, charged}
+use Rattle.budget.proofs.BudgetLaws.{charged-none, met_then, over_then, over-not_ok}
 use Rattle.sheet.specs.declared.script.Script.{Script}
 use Rattle.instructions.specs.declared.placed.Placed.{Placed}
 use Rattle.instructions.specs.Placed.{Stands, IsPlaced}
@@ -107,14 +106,14 @@ module _ {code : List Instruction} {l : Limits} {budget : FlowBudget} {b start :
     noted = only-cell cost_cell _ (omega arith) e₁
 
     -- a charge crosses the limit
-    pub transferred_over : {end : ℕ} {x : FlowBudget} → pc < end → r ≡ Over x → Transferred code l budget b start end m m₁ r
+    pub transferred_over : {end : ℕ} {x : FlowBudget} → pc < end → r ≡ over x → Transferred code l budget b start end m m₁ r
     transferred_over {end} h f = record {
       charges = f ∙ sym (ap (λ (ns : List ℕ). charged l budget (map (cost_at code) ns)) (range_at start pc end a h)
           ∙ ap (charged l budget) (map-append (cost_at code) (range start (pc - start)) (pc ∷ range (suc pc) (end - suc pc)))
           ∙ met_then l budget _ _ g.charges
           ∙ over_then l left (cost_at code pc ∷ []) _ (ap (λ (k : ℕ). charged l left (k ∷ [])) (sym cost-is) ∙ sym c ∙ f));
-      rows = λ y q. let o : ◌≡◌ {A = ℕ} 0 1 = cc in absurd (omega arith);
-      costs = λ y q i. let o : ◌≡◌ {A = ℕ} 0 1 = cc in absurd (omega arith);
+      rows = λ y q. absurd (over-not_ok (sym f ∙ q));
+      costs = λ y q. absurd (over-not_ok (sym f ∙ q));
       other_costs = λ i h. ap (λ (w : Mem). word w cost_cell i) e₁ ∙ word-store_other m' cost_cell pc (n + 1) cost_cell i (λ _ q. omega arith)
           ∙ g.other_costs i h;
       only = only_then g.only noted;

@@ -1,5 +1,5 @@
 -- The blocks of a script in the words of both buffers.
-use Rattle.std.specs.Prelude.{◌≡◌, Bool, false, List, [], ◌∷◌, map, ℕ, suc, ◌≤◌, ◌<◌, length, get_or, replicate}
+use Rattle.std.specs.Prelude.{◌≡◌, Bool, false, List, [], ◌∷◌, map, ℕ, suc, ◌≤◌, ◌<◌, length, get_or, replicate, Ok}
 use Rattle.bitset.specs.Sets.{member, ones}
 use Rattle.dataflow.specs.BasicBlocks.{uses, defines}
 use Rattle.dataflow.specs.Code.{Instruction, program, leaders, body, block_successors}
@@ -11,9 +11,7 @@ use Rattle.memory.specs.Frame.{Only, RowsOf, RowsBefore}
 use Rattle.sizes.specs.declared.Layout.{Layout}
 use Rattle.budget.specs.declared.FlowBudget.{FlowBudget}
 use Rattle.budget.specs.declared.Limits.{Limits}
-use Rattle.budget.specs.declared.Charged.{Charged}
-use Rattle.budget.specs.declared.Charged.TheVariants.{Ok}
-use Rattle.budget.specs.Budget.{charged}
+use Rattle.budget.specs.Budget.{Charged, charged}
 use Rattle.sheet.specs.declared.script.Script.{Script}
 use Rattle.instructions.specs.Sound.{Sound}
 use Rattle.leaders.specs.Index.{Indexed, Fits}

@@ -1,5 +1,5 @@
 -- What a block uses and what it defines, as rows of words: flow.rs `graph`, the second loop.
-use Rattle.std.specs.Prelude.{◌≡◌, List, [], ◌∷◌, map, ℕ, ◌-◌, ◌≤◌, ◌<◌}
+use Rattle.std.specs.Prelude.{◌≡◌, List, [], ◌∷◌, map, ℕ, ◌-◌, ◌≤◌, ◌<◌, Ok}
 use Rattle.bitset.specs.Sets.{member}
 use Rattle.bitset.specs.Operations.{inserted}
 use Rattle.dataflow.specs.Lists.{pick, range}
@@ -10,9 +10,7 @@ use Rattle.memory.specs.Names.{cost_cell, uses_row, defines_row}
 use Rattle.memory.specs.Frame.{Only, RowsOf}
 use Rattle.budget.specs.declared.FlowBudget.{FlowBudget}
 use Rattle.budget.specs.declared.Limits.{Limits}
-use Rattle.budget.specs.declared.Charged.{Charged}
-use Rattle.budget.specs.declared.Charged.TheVariants.{Ok}
-use Rattle.budget.specs.Budget.{charged}
+use Rattle.budget.specs.Budget.{Charged, charged}
 use Rattle.instructions.specs.Sets.{inserted_all}
 
 -- each of the inputs is used unless it is in d

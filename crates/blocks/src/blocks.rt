@@ -10,7 +10,7 @@ ghost use Rattle.sheet.specs.Decode.{parts_of};
 ghost use Rattle.blocks.specs.Blocks.{Ready, Built, BuiltOne};
 
 use crate::{span, successors, transfer};
-use budget::{Charged, FlowBudget, Limits};
+use budget::{FlowBudget, Limits, OverWork};
 use instructions::placed;
 use memory::layout;
 use sheet::script::Script;
@@ -25,20 +25,16 @@ pub fn blocks(
     y: Layout,
     limits: Limits,
     budget: FlowBudget,
-) -> Charged
+) -> Result<FlowBudget, OverWork>
     requires { Room y (length s.old) × SetsRoom y (length t.old) × Ready sheet.now script y (scratch y s.old) }
     ensures { Built (flow_code (parts_of sheet.now)) y limits budget (scratch y s.old) (scratch y s.new) (sets y t.old) (sets y t.new) result }
 {
     let mut left = budget;
     for index in 0..y.blocks {
         fresh(t, y, index);
-        let c = block(sheet, s, script, y, index, limits, left);
-        let Charged::Ok(b) = c else {
-            return c;
-        };
-        left = b;
+        left = block(sheet, s, script, y, index, limits, left)?;
     }
-    Charged::Ok(left)
+    Ok(left)
 }
 
 // One block: its span, its edges, its two rows from nothing.
@@ -50,7 +46,7 @@ fn block(
     index: usize,
     limits: Limits,
     budget: FlowBudget,
-) -> Charged
+) -> Result<FlowBudget, OverWork>
     requires { Room y (length s.old) × (Ready sheet.now script y (scratch y s.old)) × (index < y.blocks) }
     ensures { BuiltOne (flow_code (parts_of sheet.now)) limits budget index (scratch y s.old) (scratch y s.new) result }
 {

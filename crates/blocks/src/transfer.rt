@@ -14,7 +14,7 @@ ghost use Rattle.sheet.specs.Decode.{parts_of};
 ghost use Rattle.blocks.specs.Rows.{used_in, Transferred};
 ghost use Rattle.blocks.specs.Blocks.{Ready};
 
-use budget::{Charged, FlowBudget, Limits};
+use budget::{FlowBudget, Limits, OverWork};
 use instructions::placed;
 use memory::layout;
 use operands::instruction::Instruction;
@@ -33,7 +33,7 @@ pub fn transfer(
     end: usize,
     limits: Limits,
     budget: FlowBudget,
-) -> Charged
+) -> Result<FlowBudget, OverWork>
     requires { Room y (length s.old) × (Ready sheet.now script y (scratch y s.old)) × (block < y.blocks) × (start ≤ end) × (end ≤ y.instructions) }
     ensures { Transferred (flow_code (parts_of sheet.now)) limits budget block start end (scratch y s.old) (scratch y s.new) result }
 {
@@ -44,15 +44,11 @@ pub fn transfer(
         let inputs = instruction.inputs();
         let cost = inputs.len() as u64 + 1;
         memory::scratch::put(s, y, layout::COST, pc, cost);
-        let c = left.charge(cost, limits);
-        let Charged::Ok(b) = c else {
-            return c;
-        };
-        left = b;
+        left = left.charge(cost, limits)?;
         use_inputs(s, y, block, inputs);
         insert_output(s, y, layout::defines(y, block), instruction);
     }
-    Charged::Ok(left)
+    Ok(left)
 }
 
 // Each input is used unless it is defined already.

@@ -5,6 +5,7 @@ use mathlib.Core.List.{List, ◌++◌}
 use Prim.Native.Nat.{ℕ, ◌+◌, ◌-◌, ◌≤◌, ◌<◌}
 use native.Mathlib.Omega.{arith}
 use lib.ListN.{length, take, drop, length-drop}
+use Rattle.std.proofs.lemmas.Result.{IfOk-at_ok}
 use Rattle.std.proofs.lemmas.List.{length-take-le, drop-drop}
 use borrow.Rule.Slice.PartMut.{put_mid}
 use Rattle.bitset.specs.Rows.{patched}
@@ -13,11 +14,9 @@ use Rattle.dataflow.specs.Code.{block_successors}
 use Rattle.dataflow.specs.Charges.{operand_charges, reachability_charges, building_charges}
 use Rattle.budget.specs.declared.FlowBudget.{FlowBudget}
 use Rattle.budget.specs.declared.Limits.{Limits}
-use Rattle.budget.specs.declared.Charged.{Charged}
-use Rattle.budget.specs.declared.Charged.TheVariants as charging
-use Rattle.budget.specs.Budget.{charged, budget_of}
+use Rattle.std.specs.Prelude.{Ok, Err}
+use Rattle.budget.specs.Budget.{Charged, over, charged}
 use Rattle.budget.proofs.BudgetLaws.{met_then, over_then}
-use Rattle.format.specs.declared.refusal.Refusal.{Refusal}
 use Rattle.format.specs.declared.refusal.Refusal.TheVariants.{WorkLimit}
 use Rattle.memory.specs.Cells.{Mem, cell, store_cell, total}
 use Rattle.memory.specs.Names.{offset_cell, block_of_cell, leader_cell, parameters_row}
@@ -39,11 +38,9 @@ use Rattle.edges.specs.Flow.{Fresh}
 use Rattle.blocks.specs.Blocks.{Ready}
 use Rattle.blocks.specs.Blocks as building
 use Rattle.blocks.proofs.KeptLaws.{ready_kept}
-use Rattle.sizes.specs.declared.Staged.{Staged}
-use Rattle.sizes.specs.declared.Staged.TheVariants.{Ok, Refused}
+use Rattle.sizes.specs.declared.Stopped.{Stopped}
 use Rattle.rooms.specs.Rooms.{Indexes, Measured}
-use Rattle.sizes.specs.Stages.{if_met, if_ok, stage, graph_of}
-use Rattle.rooms.proofs.RoomLaws.{over-refused}
+use Rattle.sizes.specs.Stages.{Staged, stopped, if_met, if_ok, stage, graph_of}
 use Rattle.graph.specs.Graph.{Holding, Graphed, Parameters, Joined, Reaches, Built}
 use Rattle.graph.proofs.HoldingLaws.{some_block, blocks_hold, joined_hold, all_held}
 
@@ -94,66 +91,63 @@ joined y m w w' f e = record {
 
 -- ---- `reach`
 
-module _ (y : Layout) (l : Limits) (b : FlowBudget) (m m' : Mem) (c : Charged) (g : Reached y l b m m' c) where
+module _ (y : Layout) (l : Limits) (b : FlowBudget) (m m' : Mem) where
   -- a charge crossed the limit
-  pub reaches_over : (z : FlowBudget) (r : Staged) → c ≡ charging.Over z → r ≡ Refused WorkLimit (budget_of c) → Reaches y l b m m' r
-  reaches_over z r eo er = record {
-    charged_as = c;
-    reached = g;
-    answer = over-refused c z (Ok y) r eo er;
-  }
+  pub reaches_over : (z : FlowBudget) → Reached y l b m m' (over z) → Reaches y l b m m' (stopped WorkLimit z)
+  reaches_over z g = record { charged_as = over z; reached = g; answer = refl }
 
   -- all were met
-  pub reaches_on : (left : FlowBudget) → c ≡ charging.Ok left → Reaches y l b m m' (Ok y left)
-  reaches_on left eo = record { charged_as = c; reached = g; answer = ap (λ (d : Charged). if_met d (Ok y)) (sym eo) }
+  pub reaches_on : (left : FlowBudget) → Reached y l b m m' (Ok left) → Reaches y l b m m' (Ok (y, left))
+  reaches_on left g = record { charged_as = Ok left; reached = g; answer = refl }
 
 -- ---- charges in two stages
 
 -- where the answer goes on, the charges were met, and the layout is the same
-pub staged_met : (c : Charged) (y y' : Layout) (left : FlowBudget) → if_met c (Ok y) ≡ Ok y' left → (c ≡ charging.Ok left) × (y ≡ y')
-staged_met (charging.Ok b) y y' left e = (cc, cc)
-staged_met (charging.Over b) y y' left e = let o : ◌≡◌ {A = ℕ} 0 1 = cc in absurd (omega arith)
+pub staged_met : (c : Charged) (y y' : Layout) (left : FlowBudget) → if_met c (λ z. Ok (y, z)) ≡ Ok (y', left) → (c ≡ Ok left) × (y ≡ y')
+staged_met (Ok b) y y' left e =
+    let same : ◌≡◌ {A = Layout × FlowBudget} (y, b) (y', left) = cc in
+    (ap (λ (r : Layout × FlowBudget). Ok r.1) same, ap (λ (r : Layout × FlowBudget). r.0) same)
+staged_met (Err e) y y' left q = absurd (IfOk-at_ok (λ _. ⊥) q tt)
 
-module _ (l : Limits) (b : FlowBudget) (cs ds : List ℕ) (y : Layout) (c : Charged) (ec : c ≡ charged l b cs) where
+module _ (l : Limits) (b : FlowBudget) (cs ds : List ℕ) (y : Layout) where
   -- the first crossed the limit
-  stage-over : (z : FlowBudget) → c ≡ charging.Over z → Refused WorkLimit z ≡ stage l (cs ++ ds) y b
-  stage-over z eo = ap (λ (d : Charged). if_met d (Ok y)) (sym (over_then l b cs ds (sym ec ∙ eo)))
+  stage-over : (z : FlowBudget) → over z ≡ charged l b cs → stopped WorkLimit z ≡ stage l (cs ++ ds) y b
+  stage-over z e = ap (λ (d : Charged). if_met d (λ z. Ok (y, z))) (sym (over_then l b cs ds (sym e)))
 
   -- the first were met
-  stage-on : (left : FlowBudget) → c ≡ charging.Ok left → if_met (charged l left ds) (Ok y) ≡ stage l (cs ++ ds) y b
-  stage-on left eo = ap (λ (d : Charged). if_met d (Ok y)) (sym (met_then l b cs ds (sym ec ∙ eo)))
+  stage-on : (left : FlowBudget) → Ok left ≡ charged l b cs → stage l ds y left ≡ stage l (cs ++ ds) y b
+  stage-on left e = ap (λ (d : Charged). if_met d (λ z. Ok (y, z))) (sym (met_then l b cs ds (sym e)))
 
 -- ---- `build`
 
-module _ (s : List ℕ) (parameter : ℕ → Bool) (x : Script) (y : Layout) (l : Limits) (b : FlowBudget) (m m₁ t t₁ : Mem) (c : Charged)
-    (g : building.Built (flow_code (parts_of s)) y l b m m₁ t t₁ c) where
+module _ (s : List ℕ) (parameter : ℕ → Bool) (x : Script) (y : Layout) (l : Limits) (b : FlowBudget) (m m₁ t t₁ : Mem) where
   -- a charge of the second loop crossed the limit
-  pub built_over : (z : FlowBudget) (r : Staged) → c ≡ charging.Over z → r ≡ Refused WorkLimit (budget_of c) → Built s parameter x y l b m m₁ t₁ r
-  built_over z r eo er = record {
-    answer = er ∙ ap (λ (d : Charged). Refused WorkLimit (budget_of d)) eo
-        ∙ stage-over l b (operand_charges (flow_code (parts_of s))) (reachability_charges (flow_code (parts_of s))) y c g.charges z eo;
-    holding = λ y' left q. let o : ◌≡◌ {A = ℕ} 0 1 = cc in absurd (omega arith);
-    fresh = λ y' left q. let o : ◌≡◌ {A = ℕ} 0 1 = cc in absurd (omega arith);
+  pub built_over : (z : FlowBudget) → building.Built (flow_code (parts_of s)) y l b m m₁ t t₁ (over z)
+      → Built s parameter x y l b m m₁ t₁ (stopped WorkLimit z)
+  built_over z g = record {
+    answer = stage-over l b (operand_charges (flow_code (parts_of s))) (reachability_charges (flow_code (parts_of s))) y z g.charges;
+    holding = λ y' left q. absurd (IfOk-at_ok (λ _. ⊥) q tt);
+    fresh = λ y' left q. absurd (IfOk-at_ok (λ _. ⊥) q tt);
   }
 
   -- all were met
-  module _ (left : FlowBudget) (ec : c ≡ charging.Ok left) (ready : Ready s x y m) where
+  module _ (left : FlowBudget) (g : building.Built (flow_code (parts_of s)) y l b m m₁ t t₁ (Ok left)) (ready : Ready s x y m) where
     -- the index stays
     ready_still : Ready s x y m₁
     ready_still = ready_kept ready (g.only.named offset_cell refl) (g.only.named block_of_cell refl) (g.only.named leader_cell refl)
 
     -- what `join` asks for
     pub join_held : Held y m₁
-    join_held = (block_successors (flow_code (parts_of s)), blocks_hold s x y m₁ ready_still (g.blocks left ec))
+    join_held = (block_successors (flow_code (parts_of s)), blocks_hold s x y m₁ ready_still (g.blocks left refl))
 
     -- there is a block to begin at
     pub reach_some : 0 < y.blocks
-    reach_some = some_block s x y m₁ ready_still (g.blocks left ec)
+    reach_some = some_block s x y m₁ ready_still (g.blocks left refl)
 
     module _ (m₂ : Mem) (j : Joined parameter y m₁ m₂) where
       -- the edges are still held
       still-holds : Holds (block_successors (flow_code (parts_of s))) y m₂
-      still-holds = joined_hold s x y m₁ ready_still (g.blocks left ec) parameter m₂ j
+      still-holds = joined_hold s x y m₁ ready_still (g.blocks left refl) parameter m₂ j
 
       -- so `reach` may follow
       pub reach_held : Held y m₂
@@ -162,13 +156,13 @@ module _ (s : List ℕ) (parameter : ℕ → Bool) (x : Script) (y : Layout) (l 
       -- the reachable blocks are marked, or a charge of that crossed the limit
       pub built_on : (m₃ : Mem) (r : Staged) → Reaches y l left m₂ m₃ r → Built s parameter x y l b m m₃ t₁ r
       built_on m₃ r f = record {
-        answer = f.answer ∙ ap (λ (d : Charged). if_met d (Ok y)) charges
-            ∙ stage-on l b (operand_charges (flow_code (parts_of s))) (reachability_charges (flow_code (parts_of s))) y c g.charges left ec;
-        holding = λ y' left' q. all_held s x y m₁ ready_still (g.blocks left ec) parameter m₂ j l left left' m₃ f.charged_as f.reached
+        answer = f.answer ∙ ap (λ (d : Charged). if_met d (λ z. Ok (y, z))) charges
+            ∙ stage-on l b (operand_charges (flow_code (parts_of s))) (reachability_charges (flow_code (parts_of s))) y left g.charges;
+        holding = λ y' left' q. all_held s x y m₁ ready_still (g.blocks left refl) parameter m₂ j l left left' m₃ f.charged_as f.reached
             (staged_met f.charged_as y y' left' (sym f.answer ∙ q)).0;
         fresh = λ y' left' q. record {
-          initialized = λ d h. (g.fresh left ec d h).initialized;
-          live = λ d h. (g.fresh left ec d h).live;
+          initialized = λ d h. (g.fresh left refl d h).initialized;
+          live = λ d h. (g.fresh left refl d h).live;
         };
       }
         where
@@ -179,29 +173,31 @@ module _ (s : List ℕ) (parameter : ℕ → Bool) (x : Script) (y : Layout) (l 
 
 -- ---- `graph`
 
-module _ (s : List ℕ) (parameter : ℕ → Bool) (x : Script) (l : Limits) (records : ℕ) (b : FlowBudget) (w w₁ v : List ℕ) (c : Staged)
-    (g : Measured s x l (record { sets = length v; records = records }) b w w₁ c) where
+module _ (s : List ℕ) (parameter : ℕ → Bool) (x : Script) (l : Limits) (records : ℕ) (b : FlowBudget) (w w₁ v : List ℕ) where
+  -- what `measure` does
+  abbrev Before : Staged → Type 0
+  Before = Measured s x l (record { sets = length v; records = records }) b w w₁
+
   -- the answer is what follows that of `measure`
-  answer-on : if_ok c (stage l (building_charges (flow_code (parts_of s))))
+  answer-on : (c : Staged) → Before c → if_ok c (stage l (building_charges (flow_code (parts_of s))))
       ≡ graph_of (flow_code (parts_of s)) x l (record { sets = length v; records = records }) (length w) b
   unfolding graph_of
-  answer-on =
+  answer-on c g =
       ap (λ (d : Staged). if_ok d (stage l (building_charges (flow_code (parts_of s))))) g.answer
 
   -- refused before the blocks are built
-  pub graphed_refused : (n : Refusal) (z : FlowBudget) (v' : List ℕ) → c ≡ Refused n z → Graphed s parameter x l records b w w₁ v v' c
-  graphed_refused n z v' e = record {
-    answer = e ∙ ap (λ (d : Staged). if_ok d (stage l (building_charges (flow_code (parts_of s))))) (sym e)
-        ∙ answer-on;
-    rooms = λ y left q. let o : ◌≡◌ {A = ℕ} 0 1 = cc in absurd (omega arith);
-    holding = λ y left q. let o : ◌≡◌ {A = ℕ} 0 1 = cc in absurd (omega arith);
-    fresh = λ y left q. let o : ◌≡◌ {A = ℕ} 0 1 = cc in absurd (omega arith);
+  pub graphed_refused : (e : Stopped) (v' : List ℕ) → Before (Err e) → Graphed s parameter x l records b w w₁ v v' (Err e)
+  graphed_refused e v' g = record {
+    answer = answer-on (Err e) g;
+    rooms = λ y left q. absurd (IfOk-at_ok (λ _. ⊥) q tt);
+    holding = λ y left q. absurd (IfOk-at_ok (λ _. ⊥) q tt);
+    fresh = λ y left q. absurd (IfOk-at_ok (λ _. ⊥) q tt);
   }
 
-  module _ (y : Layout) (left : FlowBudget) (ec : c ≡ Ok y left) where
+  module _ (y : Layout) (left : FlowBudget) (g : Before (Ok (y, left))) where
     -- what `measure` left behind
     indexes : Indexes s x (record { sets = length v; records = records }) w₁ y
-    indexes = g.indexes y left ec
+    indexes = g.indexes y left refl
 
     -- what `build` asks for
     pub build_ready : Sound s x → Room y (length w₁) × SetsRoom y (length v) × Ready s x y (scratch y w₁)
@@ -212,9 +208,7 @@ module _ (s : List ℕ) (parameter : ℕ → Bool) (x : Script) (l : Limits) (re
     pub graphed_on : (w₂ v₂ : List ℕ) (r : Staged) → length w₂ ≡ length w₁ → Built s parameter x y l left (scratch y w₁) (scratch y w₂) (sets y v₂) r
         → Graphed s parameter x l records b w w₂ v v₂ r
     graphed_on w₂ v₂ r long f = record {
-      answer = f.answer
-          ∙ ap (λ (d : Staged). if_ok d (stage l (building_charges (flow_code (parts_of s))))) (sym ec)
-          ∙ answer-on;
+      answer = f.answer ∙ answer-on (Ok (y, left)) g;
       rooms = λ y' left' q. subst (λ (z : Layout). Indexes s x (record { sets = length v; records = records }) w₂ z) (same y' left' q)
           (record {
             fits = indexes.fits;
@@ -228,7 +222,7 @@ module _ (s : List ℕ) (parameter : ℕ → Bool) (x : Script) (l : Limits) (re
       fresh = λ y' left' q. subst (λ (z : Layout). Fresh z (sets z v₂)) (same y' left' q) (f.fresh y' left' q);
     }
       where
-        same : (y' : Layout) (left' : FlowBudget) → r ≡ Ok y' left' → y ≡ y'
+        same : (y' : Layout) (left' : FlowBudget) → r ≡ Ok (y', left') → y ≡ y'
         same y' left' q =
             (staged_met (charged l left (building_charges (flow_code (parts_of s)))) y y' left'
             (sym f.answer ∙ q)).1

@@ -5,14 +5,15 @@ use mathlib.Core.List.{List, ◌++◌}
 use Prim.Native.Nat.{ℕ, ◌≤◌, ◌<◌}
 use native.Mathlib.Omega.{arith}
 use lib.ListN.{length, get_or}
+use Rattle.std.proofs.lemmas.Result.{IfOk-at_ok}
 use Rattle.bitset.specs.Sets.{member}
 use Rattle.dataflow.specs.Code.{block_successors}
 use Rattle.dataflow.proofs.Lists.{mem-get_or}
 use Rattle.dataflow.proofs.CodeBlocks.{successors_below, blocks_some}
 use Rattle.budget.specs.declared.FlowBudget.{FlowBudget}
 use Rattle.budget.specs.declared.Limits.{Limits}
-use Rattle.budget.specs.declared.Charged.{Charged}
-use Rattle.budget.specs.declared.Charged.TheVariants as charging
+use Rattle.std.specs.Prelude.{Ok}
+use Rattle.budget.specs.Budget.{Charged}
 use Rattle.memory.specs.Cells.{Mem, cell}
 use Rattle.memory.specs.Names.{offset_cell, block_of_cell, leader_cell, first_edge_cell, predecessor_count_cell, next_edge_cell, parameters_row}
 use Rattle.dataflow.specs.Lists.{flag}
@@ -80,7 +81,7 @@ module _ (s : List ℕ) (x : Script) (y : Layout) (m₁ : Mem) (ready : Ready s 
 
     -- ---- the reachable blocks marked
 
-    module _ (l : Limits) (b left : FlowBudget) (m₃ : Mem) (r : Charged) (g : Reached y l b m₂ m₃ r) (er : r ≡ charging.Ok left) where
+    module _ (l : Limits) (b left : FlowBudget) (m₃ : Mem) (r : Charged) (g : Reached y l b m₂ m₃ r) (er : r ≡ Ok left) where
       -- what both leave
       only : Only join_cells (ThisRow (parameters_row y.blocks)) m₁ m₃
       only =
@@ -102,7 +103,7 @@ module _ (s : List ℕ) (x : Script) (y : Layout) (m₁ : Mem) (ready : Ready s 
         blocks = ready.fits.blocks;
         holds = reached-holds g joined_hold;
         chained = reached-chained g joined-chained;
-        reached = λ c h. g.marks (block_successors (flow_code (parts_of s))) joined_hold left er c h
+        reached = λ c h. IfOk-at_ok _ er (g.marks (block_successors (flow_code (parts_of s))) joined_hold) c h
             ∙ ap (λ (n : ℕ). flag (get_or (swept_from (block_successors (flow_code (parts_of s))) n).visited c false)) ready.fits.blocks;
         uses_are = λ c h i. (block-still c h).rows.uses_are i;
         defines_are = λ c h i. (block-still c h).rows.defines_are i;

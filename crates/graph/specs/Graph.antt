@@ -1,10 +1,10 @@
 -- `graph` and `reachability` of flow.rs: the answer, and what both buffers hold where it goes on.
-use Rattle.std.specs.Prelude.{◌≡◌, Bool, List, [], ℕ, ◌<◌, length}
+use Rattle.std.specs.Prelude.{◌≡◌, Bool, List, [], ℕ, ◌<◌, length, Ok}
 use Rattle.bitset.specs.Sets.{member}
 use Rattle.dataflow.specs.Charges.{building_charges}
 use Rattle.budget.specs.declared.FlowBudget.{FlowBudget}
 use Rattle.budget.specs.declared.Limits.{Limits}
-use Rattle.budget.specs.declared.Charged.{Charged}
+use Rattle.budget.specs.Budget.{Charged}
 use Rattle.memory.specs.Cells.{Mem, cell, store_cell}
 use Rattle.memory.specs.Names.{parameters_row}
 use Rattle.memory.specs.Frame.{Only, ThisRow}
@@ -19,10 +19,8 @@ use Rattle.edges.specs.Predecessors.{Linked}
 use Rattle.edges.specs.Reachability.{Reached}
 use Rattle.edges.specs.Flow.{Flows, Fresh}
 use Rattle.blocks.specs.Blocks.{Block}
-use Rattle.sizes.specs.declared.Staged.{Staged}
-use Rattle.sizes.specs.declared.Staged.TheVariants.{Ok}
 use Rattle.rooms.specs.Rooms.{Indexes}
-use Rattle.sizes.specs.Stages.{if_met, stage, graph_of}
+use Rattle.sizes.specs.Stages.{Staged, if_met, stage, graph_of}
 
 -- what the words of scratch hold of a script with whatever set of parameters: its index, every block, the flow graph
 pub record Holding (s : List ℕ) (parameter : ℕ → Bool) (x : Script) (y : Layout) (m : Mem) : Type 0 where
@@ -33,9 +31,9 @@ pub record Holding (s : List ℕ) (parameter : ℕ → Bool) (x : Script) (y : L
 -- what `graph` does: w and v are the words of scratch and of the sets buffer
 pub record Graphed (s : List ℕ) (parameter : ℕ → Bool) (x : Script) (l : Limits) (records : ℕ) (b : FlowBudget) (w w' v v' : List ℕ) (r : Staged) : Type 0 where
   pub answer : r ≡ graph_of (flow_code (parts_of s)) x l (record { sets = length v; records = records }) (length w) b
-  pub rooms : (y : Layout) (left : FlowBudget) → r ≡ Ok y left → Indexes s x (record { sets = length v; records = records }) w' y
-  pub holding : (y : Layout) (left : FlowBudget) → r ≡ Ok y left → Holding s parameter x y (scratch y w')
-  pub fresh : (y : Layout) (left : FlowBudget) → r ≡ Ok y left → Fresh y (sets y v')
+  pub rooms : (y : Layout) (left : FlowBudget) → r ≡ Ok (y, left) → Indexes s x (record { sets = length v; records = records }) w' y
+  pub holding : (y : Layout) (left : FlowBudget) → r ≡ Ok (y, left) → Holding s parameter x y (scratch y w')
+  pub fresh : (y : Layout) (left : FlowBudget) → r ≡ Ok (y, left) → Fresh y (sets y v')
 
 -- what `parameters` does: a row that holds them is stored
 pub record Parameters (parameter : ℕ → Bool) (y : Layout) (m m' : Mem) : Type 0 where
@@ -54,10 +52,10 @@ pub record Joined (parameter : ℕ → Bool) (y : Layout) (m m' : Mem) : Type 0 
 pub record Reaches (y : Layout) (l : Limits) (b : FlowBudget) (m m' : Mem) (r : Staged) : Type 0 where
   pub charged_as : Charged
   pub reached : Reached y l b m m' charged_as
-  pub answer : r ≡ if_met charged_as (Ok y)
+  pub answer : r ≡ if_met charged_as (λ left. Ok (y, left))
 
 -- what `build` does
 pub record Built (s : List ℕ) (parameter : ℕ → Bool) (x : Script) (y : Layout) (l : Limits) (b : FlowBudget) (m m' t' : Mem) (r : Staged) : Type 0 where
   pub answer : r ≡ stage l (building_charges (flow_code (parts_of s))) y b
-  pub holding : (y' : Layout) (left : FlowBudget) → r ≡ Ok y' left → Holding s parameter x y m'
-  pub fresh : (y' : Layout) (left : FlowBudget) → r ≡ Ok y' left → Fresh y t'
+  pub holding : (y' : Layout) (left : FlowBudget) → r ≡ Ok (y', left) → Holding s parameter x y m'
+  pub fresh : (y' : Layout) (left : FlowBudget) → r ≡ Ok (y', left) → Fresh y t'

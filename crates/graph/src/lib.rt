@@ -11,11 +11,10 @@ ghost use Rattle.blocks.specs.Blocks.{Ready};
 ghost use Rattle.edges.specs.Edges.{Held};
 ghost use Rattle.graph.specs.Graph.{Graphed, Parameters, Joined, Built, Reaches};
 
-use budget::{Charged, FlowBudget, Limits};
-use format::refusal::Refusal;
+use budget::{FlowBudget, Limits};
 use memory::layout;
 use sheet::script::Script;
-use sizes::{Layout, Lent, Staged};
+use sizes::{Layout, Lent, Stopped};
 
 // The graph of a script in both buffers, or why there is none. `added` is a set of slots that are parameters beside the sheet's own, `records` how many
 // block records are lent.
@@ -28,18 +27,15 @@ pub fn graph(
     records: usize,
     limits: Limits,
     budget: FlowBudget,
-) -> Staged
+) -> Result<(Layout, FlowBudget), Stopped>
     requires { (Sound sheet.now script) × (4 * script.count ≤ length s.old) }
     ensures { Graphed sheet.now (parameter_with (parts_of sheet.now) added.now) script limits records budget s.old s.new t.old t.new result }
 {
     let lent = Lent {
         sets: t.len(),
-        records: records,
+        records,
     };
-    let m = rooms::measure(sheet, s, script, lent, limits, budget);
-    let Staged::Ok(y, left) = m else {
-        return m;
-    };
+    let (y, left) = rooms::measure(sheet, s, script, lent, limits, budget)?;
     build(sheet, added, s, t, script, y, limits, left)
 }
 
@@ -53,14 +49,11 @@ fn build(
     y: Layout,
     limits: Limits,
     budget: FlowBudget,
-) -> Staged
+) -> Result<(Layout, FlowBudget), Stopped>
     requires { Room y (length s.old) × SetsRoom y (length t.old) × Ready sheet.now script y (scratch y s.old) }
     ensures { Built sheet.now (parameter_with (parts_of sheet.now) added.now) script y limits budget (scratch y s.old) (scratch y s.new) (sets y t.new) result }
 {
-    let c = blocks::blocks::blocks(sheet, s, t, script, y, limits, budget);
-    let Charged::Ok(left) = c else {
-        return Staged::Refused(Refusal::WorkLimit, c.budget());
-    };
+    let left = blocks::blocks::blocks(sheet, s, t, script, y, limits, budget)?;
     join(sheet, added, s, script, y);
     reach(s, y, limits, left)
 }
@@ -84,13 +77,15 @@ fn parameters(sheet: &[u8], added: &[u64], s: &mut [u64], script: Script, y: Lay
 }
 
 // Which blocks a path from block 0 reaches.
-fn reach(s: &mut [u64], y: Layout, limits: Limits, budget: FlowBudget) -> Staged
+fn reach(
+    s: &mut [u64],
+    y: Layout,
+    limits: Limits,
+    budget: FlowBudget,
+) -> Result<(Layout, FlowBudget), Stopped>
     requires { Room y (length s.old) × (0 < y.blocks) × Held y (scratch y s.old) }
     ensures { Reaches y limits budget (scratch y s.old) (scratch y s.new) result }
 {
-    let c = edges::reachability::reachability(s, y, limits, budget);
-    let Charged::Ok(left) = c else {
-        return Staged::Refused(Refusal::WorkLimit, c.budget());
-    };
-    Staged::Ok(y, left)
+    let left = edges::reachability::reachability(s, y, limits, budget)?;
+    Ok((y, left))
 }

@@ -29,10 +29,9 @@ use Rattle.sheet.specs.Decode.{parts_of}
 use Rattle.sheet.specs.Decode as sheet
 use Rattle.budget.specs.declared.FlowBudget.{FlowBudget}
 use Rattle.budget.specs.declared.Limits.{Limits}
-use Rattle.budget.specs.declared.Charged.{Charged}
-use Rattle.budget.specs.declared.Charged.TheVariants.{Ok, Over}
-use Rattle.budget.specs.Budget.{charged}
-use Rattle.budget.proofs.BudgetLaws.{ones-crossed}
+use Rattle.std.specs.Prelude.{Ok}
+use Rattle.budget.specs.Budget.{Charged, over, charged}
+use Rattle.budget.proofs.BudgetLaws.{ones-crossed, over-not_ok}
 use Rattle.instructions.specs.declared.placed.Placed.{Placed}
 use Rattle.instructions.specs.Placed.{IsPlaced}
 use Rattle.bitset.specs.Below.{AllBelow}
@@ -179,11 +178,11 @@ module _ {s : List ℕ} {x : Script} (h : Sound s x) where
           (e₂ ∙ ap (λ (w : sheet.Instruction). marked_by (ends_block w.kind) (targets_of w.kind w.fields) x.count i m₁) read_is)
 
   -- a charge crosses the limit at instruction i
-  pub leads_over : {l : Limits} {b left y : FlowBudget} {m m' : Mem} {r : Charged} {i : ℕ} → Marking s x m m' i → i < x.count
-      → charged l b (replicate i 1) ≡ Ok left → r ≡ charged l left (1 ∷ []) → r ≡ Over y → Leads s x l b m m' r
-  leads_over {l} {b} {i = i} g h c e f = record {
-    charges = f ∙ sym (ones-crossed l b i x.count c h (sym e ∙ f));
-    led = λ z q. let o : ◌≡◌ {A = ℕ} 0 1 = cc in absurd (omega arith);
+  pub leads_over : {l : Limits} {b left y : FlowBudget} {m m' : Mem} {i : ℕ} → Marking s x m m' i → i < x.count
+      → charged l b (replicate i 1) ≡ Ok left → over y ≡ charged l left (1 ∷ []) → Leads s x l b m m' (over y)
+  leads_over {l} {b} {i = i} g h c e = record {
+    charges = sym (ones-crossed l b i x.count c h (sym e));
+    led = λ z q. absurd (over-not_ok q);
     others = g.others;
   }
 

@@ -1,5 +1,5 @@
 -- The first loop of `graph` in flow.rs: a charge an instruction, and the leaders marked.
-use Rattle.std.specs.Prelude.{◌≡◌, Bool, ◌&&◌, ◌||◌, List, [], ◌∷◌, ℕ, suc, ◌+◌, ◌<◌, eqb, ltb, replicate}
+use Rattle.std.specs.Prelude.{◌≡◌, Bool, ◌&&◌, ◌||◌, List, [], ◌∷◌, ℕ, suc, ◌+◌, ◌<◌, eqb, ltb, replicate, Ok}
 use Rattle.dataflow.specs.Lists.{pick, range, some, elem, flag}
 use Rattle.dataflow.specs.Code.{Instruction, instruction_at, leader}
 use Rattle.memory.specs.Cells.{Mem, cell, word, store}
@@ -7,9 +7,7 @@ use Rattle.memory.specs.Names.{block_of_cell, offset_cell}
 use Rattle.sizes.specs.declared.Layout.{Layout}
 use Rattle.budget.specs.declared.FlowBudget.{FlowBudget}
 use Rattle.budget.specs.declared.Limits.{Limits}
-use Rattle.budget.specs.declared.Charged.{Charged}
-use Rattle.budget.specs.declared.Charged.TheVariants.{Ok}
-use Rattle.budget.specs.Budget.{charged}
+use Rattle.budget.specs.Budget.{Charged, charged}
 use Rattle.sheet.specs.declared.script.Script.{Script}
 use Rattle.sheet.specs.Decode.{parts_of}
 use Rattle.instructions.specs.Sound.{code_offset}

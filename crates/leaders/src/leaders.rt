@@ -7,7 +7,7 @@ ghost use Rattle.bitset.specs.Below.{AllBelow};
 ghost use Rattle.instructions.specs.Sound.{Sound};
 ghost use Rattle.leaders.specs.Leaders.{marking, marked_by, Begun, Leads};
 
-use budget::{Charged, FlowBudget, Limits};
+use budget::{FlowBudget, Limits, OverWork};
 use instructions::placed;
 use memory::layout;
 use operands::instruction::Instruction;
@@ -21,7 +21,7 @@ pub fn leaders(
     script: Script,
     limits: Limits,
     budget: FlowBudget,
-) -> Charged
+) -> Result<FlowBudget, OverWork>
     requires { (Sound sheet.now script) × Room (marking script) (length s.old) }
     ensures { Leads sheet.now script limits budget (scratch (marking script) s.old) (scratch (marking script) s.new) result }
 {
@@ -44,7 +44,7 @@ fn mark_all(
     script: Script,
     limits: Limits,
     budget: FlowBudget,
-) -> Charged
+) -> Result<FlowBudget, OverWork>
     requires { (Sound sheet.now script) × Room (marking script) (length s.old) × Begun script (scratch (marking script) s.old) }
     ensures { Leads sheet.now script limits budget (scratch (marking script) s.old) (scratch (marking script) s.new) result }
 {
@@ -58,17 +58,13 @@ fn mark_all(
     let mut left = budget;
     let mut at = script.code_at;
     for pc in 0..script.count {
-        let c = left.charge(1, limits);
-        let Charged::Ok(b) = c else {
-            return c;
-        };
-        left = b;
+        left = left.charge(1, limits)?;
         let p = placed::instruction_at(sheet, at);
         memory::scratch::put(s, y, layout::OFFSET, pc, at as u64);
         mark(s, y, pc, p.instruction());
         at = p.next;
     }
-    Charged::Ok(left)
+    Ok(left)
 }
 
 // What instruction pc marks: if it ends a block, its targets and what follows it.

@@ -6,15 +6,15 @@ use Prim.Native.Nat.{ℕ, ◌*◌, ◌≤◌}
 use native.Mathlib.Omega.{arith}
 use lib.Dec.{ltb}
 use lib.ListN.{length, replicate}
+use Rattle.std.proofs.lemmas.Result.{IfOk-at_ok}
 use borrow.Author.Tests.{ltb-false}
 use Rattle.dataflow.specs.Charges.{leader_charges}
 use Rattle.dataflow.specs.Results.{block_count}
 use Rattle.dataflow.proofs.Bools.{or_no_left, or_no_right}
 use Rattle.budget.specs.declared.FlowBudget.{FlowBudget}
 use Rattle.budget.specs.declared.Limits.{Limits}
-use Rattle.budget.specs.declared.Charged.{Charged}
-use Rattle.budget.specs.declared.Charged.TheVariants as charging
-use Rattle.budget.specs.Budget.{charged, budget_of}
+use Rattle.std.specs.Prelude.{Ok}
+use Rattle.budget.specs.Budget.{Charged, over, charged}
 use Rattle.budget.proofs.BudgetLaws.{met_then, over_then}
 use Rattle.format.specs.declared.refusal.Refusal.TheVariants.{WorkLimit}
 use Rattle.memory.specs.Cells.{Mem}
@@ -33,10 +33,8 @@ use Rattle.leaders.specs.Numbers.{Numbered}
 use Rattle.leaders.proofs.BlockLaws.{blocks_are}
 use Rattle.leaders.proofs.IndexLaws.{indexed, indexed-grown, few_blocks}
 use Rattle.sizes.specs.declared.Lent.{Lent}
-use Rattle.sizes.specs.declared.Staged.{Staged}
-use Rattle.sizes.specs.declared.Staged.TheVariants.{Refused}
 use Rattle.rooms.specs.Rooms.{Indexes, Counted, Measured}
-use Rattle.sizes.specs.Stages.{rooms_of, if_met}
+use Rattle.sizes.specs.Stages.{Staged, stopped, rooms_of, if_met}
 use Rattle.sizes.proofs.StageLaws.{rooms_yes}
 
 -- buffers that are not short have room
@@ -96,31 +94,25 @@ pub first-charges : (s : List ℕ) (x : Script) → Sound s x → (l : Limits) (
     → charged l b (replicate x.count 1) ≡ charged l b (leader_charges (flow_code (parts_of s)))
 first-charges s x h l b = ap (λ (k : ℕ). charged l b (replicate k 1)) (sym (code_length s x h))
 
--- a stage whose charges crossed the limit refuses
-pub over-refused : (c : Charged) (z : FlowBudget) (f : FlowBudget → Staged) (r : Staged) → c ≡ charging.Over z → r ≡ Refused WorkLimit (budget_of c)
-    → r ≡ if_met c f
-over-refused c z f r eo er = er ∙ ap (λ (d : Charged). Refused WorkLimit (budget_of d)) eo ∙ ap (λ (d : Charged). if_met d f) (sym eo)
-
 module _ (s : List ℕ) (x : Script) (l : Limits) (lent : Lent) (b : FlowBudget) (w w' : List ℕ) where
   -- what follows the charges
   abbrev rooms : FlowBudget → Staged
   rooms = rooms_of l (layout_of x (block_count (flow_code (parts_of s)))) (length w) lent
 
   -- a charge of the first loop crossed the limit
-  pub counted_over : (c : Charged) (z : FlowBudget) (r : Staged) → c ≡ charged l b (leader_charges (flow_code (parts_of s))) → c ≡ charging.Over z
-      → r ≡ Refused WorkLimit (budget_of c) → Counted s x l lent b w w' r
-  counted_over c z r ec eo er = record {
-    answer = over-refused c z rooms r eo er ∙ ap (λ (d : Charged). if_met d rooms) ec;
-    indexes = λ y left q. let o : ◌≡◌ {A = ℕ} 0 1 = cc in absurd (omega arith);
+  pub counted_over : (z : FlowBudget) → over z ≡ charged l b (leader_charges (flow_code (parts_of s))) → Counted s x l lent b w w' (stopped WorkLimit z)
+  counted_over z e = record {
+    answer = ap (λ (d : Charged). if_met d rooms) e;
+    indexes = λ y left q. absurd (IfOk-at_ok (λ _. ⊥) q tt);
   }
 
   -- all were met: the blocks are numbered, and the rooms decide
-  pub counted_on : Sound s x → (c : Charged) (left : FlowBudget) (m m₁ : Mem) (blocks : ℕ) (r : Staged) → Leads s x l b m m₁ c
-      → c ≡ charging.Ok left → Numbered x.count m₁ (scratch (marking x) w') blocks → length w' ≡ length w → (y : Layout) (n : ℕ)
+  pub counted_on : Sound s x → (left : FlowBudget) (m m₁ : Mem) (blocks : ℕ) (r : Staged) → Leads s x l b m m₁ (Ok left)
+      → Numbered x.count m₁ (scratch (marking x) w') blocks → length w' ≡ length w → (y : Layout) (n : ℕ)
       → y ≡ layout_of x blocks → n ≡ length w → r ≡ rooms_of l y n lent left → Counted s x l lent b w w' r
-  counted_on h c left m m₁ blocks r leads ec g q y₀ n ey en e₀ = record {
+  counted_on h left m m₁ blocks r leads g q y₀ n ey en e₀ = record {
     answer = er ∙ ap (λ (k : ℕ). rooms_of l (layout_of x k) (length w) lent left) is
-        ∙ ap (λ (d : Charged). if_met d rooms) (sym ec ∙ charges);
+        ∙ ap (λ (d : Charged). if_met d rooms) charges;
     indexes = λ y left' e. yes_of y left' (rooms_yes l (layout_of x blocks) (length w) lent left y left' (sym er ∙ e));
   }
     where
@@ -128,12 +120,12 @@ module _ (s : List ℕ) (x : Script) (l : Limits) (lent : Lent) (b : FlowBudget)
       er = e₀ ∙ ap₂ (λ (z : Layout) (k : ℕ). rooms_of l z k lent left) ey en
 
       led : Led s x m₁
-      led = leads.led left ec
+      led = leads.led left refl
 
       is : blocks ≡ block_count (flow_code (parts_of s))
       is = blocks_are s x h m₁ led (scratch (marking x) w') blocks g
 
-      charges : c ≡ charged l b (leader_charges (flow_code (parts_of s)))
+      charges : Ok left ≡ charged l b (leader_charges (flow_code (parts_of s)))
       charges = leads.charges ∙ first-charges s x h l b
 
       yes_of : (y : Layout) (left' : FlowBudget) → (layout_of x blocks ≡ y) × (short_of (layout_of x blocks) (length w) lent ≡ false)
@@ -144,19 +136,16 @@ module _ (s : List ℕ) (x : Script) (l : Limits) (lent : Lent) (b : FlowBudget)
           (indexed-grown s x (marking x) (layout_of x blocks) w' refl (indexed s x h m₁ (scratch (marking x) w') led blocks g)))
 
   -- the charge of 0 crossed the limit
-  pub measured_over : (c : Charged) (z : FlowBudget) (r : Staged) → c ≡ charged l b (0 ∷ []) → c ≡ charging.Over z
-      → r ≡ Refused WorkLimit (budget_of c) → Measured s x l lent b w w' r
-  measured_over c z r ec eo er = record {
-    answer = over-refused c z rooms r eo er
-        ∙ ap (λ (d : Charged). if_met d rooms) (eo ∙ sym (over_then l b (0 ∷ []) (leader_charges (flow_code (parts_of s))) (sym ec ∙ eo)));
-    indexes = λ y left q. let o : ◌≡◌ {A = ℕ} 0 1 = cc in absurd (omega arith);
+  pub measured_over : (z : FlowBudget) → over z ≡ charged l b (0 ∷ []) → Measured s x l lent b w w' (stopped WorkLimit z)
+  measured_over z e = record {
+    answer = ap (λ (d : Charged). if_met d rooms) (sym (over_then l b (0 ∷ []) (leader_charges (flow_code (parts_of s))) (sym e)));
+    indexes = λ y left q. absurd (IfOk-at_ok (λ _. ⊥) q tt);
   }
 
   -- it was met
-  pub measured_on : (left : FlowBudget) (c : Charged) (r : Staged) → c ≡ charged l b (0 ∷ []) → c ≡ charging.Ok left
-      → Counted s x l lent left w w' r → Measured s x l lent b w w' r
-  measured_on left c r ec eo g = record {
+  pub measured_on : (left : FlowBudget) (r : Staged) → Ok left ≡ charged l b (0 ∷ []) → Counted s x l lent left w w' r → Measured s x l lent b w w' r
+  measured_on left r e g = record {
     answer = g.answer
-        ∙ ap (λ (d : Charged). if_met d rooms) (sym (met_then l b (0 ∷ []) (leader_charges (flow_code (parts_of s))) (sym ec ∙ eo)));
+        ∙ ap (λ (d : Charged). if_met d rooms) (sym (met_then l b (0 ∷ []) (leader_charges (flow_code (parts_of s))) (sym e)));
     indexes = g.indexes;
   }

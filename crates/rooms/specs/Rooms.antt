@@ -1,5 +1,5 @@
 -- Refusals 11 and the later 10: flow.rs `graph` up to where its state is known, and document 01's sizes of the lent buffers.
-use Rattle.std.specs.Prelude.{List, ◌≡◌, ℕ, ◌≤◌, length}
+use Rattle.std.specs.Prelude.{List, ◌≡◌, ℕ, ◌≤◌, length, Ok}
 use Rattle.dataflow.specs.Charges.{leader_charges, counting_charges}
 use Rattle.dataflow.specs.Results.{block_count}
 use Rattle.budget.specs.declared.FlowBudget.{FlowBudget}
@@ -8,15 +8,13 @@ use Rattle.budget.specs.Budget.{charged}
 use Rattle.sizes.specs.declared.Layout.{Layout}
 use Rattle.memory.specs.Scratch.{scratch, Room}
 use Rattle.sizes.specs.Sizes.{layout_of}
-use Rattle.sizes.specs.Stages.{rooms_of, if_met}
+use Rattle.sizes.specs.Stages.{Staged, rooms_of, if_met}
 use Rattle.memory.specs.Sets.{SetsRoom}
 use Rattle.sheet.specs.declared.script.Script.{Script}
 use Rattle.sheet.specs.Decode.{parts_of}
 use Rattle.script.specs.Script.{flow_code}
 use Rattle.leaders.specs.Index.{Indexed, Fits}
 use Rattle.sizes.specs.declared.Lent.{Lent}
-use Rattle.sizes.specs.declared.Staged.{Staged}
-use Rattle.sizes.specs.declared.Staged.TheVariants.{Ok}
 
 -- what a stage leaves behind if it goes on: a layout of the script's sizes that both buffers hold, and the index of the blocks
 pub record Indexes (s : List ℕ) (x : Script) (lent : Lent) (w' : List ℕ) (y : Layout) : Type 0 where
@@ -31,10 +29,10 @@ pub record Indexes (s : List ℕ) (x : Script) (lent : Lent) (w' : List ℕ) (y 
 pub record Counted (s : List ℕ) (x : Script) (l : Limits) (lent : Lent) (b : FlowBudget) (w w' : List ℕ) (r : Staged) : Type 0 where
   pub answer : r ≡ if_met (charged l b (leader_charges (flow_code (parts_of s))))
       (rooms_of l (layout_of x (block_count (flow_code (parts_of s)))) (length w) lent)
-  pub indexes : (y : Layout) (left : FlowBudget) → r ≡ Ok y left → Indexes s x lent w' y
+  pub indexes : (y : Layout) (left : FlowBudget) → r ≡ Ok (y, left) → Indexes s x lent w' y
 
 -- what `measure` does: the same after the charges of the index
 pub record Measured (s : List ℕ) (x : Script) (l : Limits) (lent : Lent) (b : FlowBudget) (w w' : List ℕ) (r : Staged) : Type 0 where
   pub answer : r ≡ if_met (charged l b (counting_charges (flow_code (parts_of s))))
       (rooms_of l (layout_of x (block_count (flow_code (parts_of s)))) (length w) lent)
-  pub indexes : (y : Layout) (left : FlowBudget) → r ≡ Ok y left → Indexes s x lent w' y
+  pub indexes : (y : Layout) (left : FlowBudget) → r ≡ Ok (y, left) → Indexes s x lent w' y

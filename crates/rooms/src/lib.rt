@@ -10,10 +10,9 @@ ghost use Rattle.leaders.specs.Numbers.{marked, Numbered};
 ghost use Rattle.instructions.specs.Sound.{Sound};
 ghost use Rattle.rooms.specs.Rooms.{Counted, Measured};
 
-use budget::{Charged, FlowBudget, Limits};
-use format::refusal::Refusal;
+use budget::{FlowBudget, Limits};
 use sheet::script::Script;
-use sizes::{Layout, Lent, Staged};
+use sizes::{Layout, Lent, Stopped};
 
 // The leaders marked and the blocks numbered, then the rooms.
 fn count(
@@ -23,14 +22,11 @@ fn count(
     lent: Lent,
     limits: Limits,
     budget: FlowBudget,
-) -> Staged
+) -> Result<(Layout, FlowBudget), Stopped>
     requires { (Sound sheet.now script) × (4 * script.count ≤ length s.old) }
     ensures { Counted sheet.now script limits lent budget s.old s.new result }
 {
-    let c = leaders::leaders::leaders(sheet, s, script, limits, budget);
-    let Charged::Ok(left) = c else {
-        return Staged::Refused(Refusal::WorkLimit, c.budget());
-    };
+    let left = leaders::leaders::leaders(sheet, s, script, limits, budget)?;
     let blocks = number_blocks(s, script);
     sizes::rooms(Layout::of(script, blocks), s.len(), lent, limits, left)
 }
@@ -60,13 +56,10 @@ pub fn measure(
     lent: Lent,
     limits: Limits,
     budget: FlowBudget,
-) -> Staged
+) -> Result<(Layout, FlowBudget), Stopped>
     requires { (Sound sheet.now script) × (4 * script.count ≤ length s.old) }
     ensures { Measured sheet.now script limits lent budget s.old s.new result }
 {
-    let c = budget.charge(0, limits);
-    let Charged::Ok(left) = c else {
-        return Staged::Refused(Refusal::WorkLimit, c.budget());
-    };
+    let left = budget.charge(0, limits)?;
     count(sheet, s, script, lent, limits, left)
 }

@@ -1,4 +1,4 @@
-use Rattle.std.proofs.Common.{◌≤◌, ◌+◌, ◌∙◌, length, arith}
+use Rattle.std.proofs.Common.{◌∙◌, arith}
 use Rattle.graph.proofs.GraphLaws.{row_inside, row_size, row_stored, parameters-row}
 use Rattle.graph.proofs.parameters.Goals as goal
 
@@ -13,11 +13,6 @@ offset_bounds-s-base c =
 pub slice_bounds-insert_all-end : goal.slice_bounds-insert_all-end
 slice_bounds-insert_all-end c =
     row_inside c.args.y c.args.s.now c.requires.0 (parameters-row c.args.y) c.parameters.ensures c.scratch_start-base.ensures
-
-pub insert_all-requires : goal.insert_all-requires
-insert_all-requires c =
-    let w = row_size c.args.y c.args.s.now c.requires.0 (parameters-row c.args.y) c.parameters.ensures c.scratch_start-base.ensures in
-    (c.requires.1, rw w c.requires.2)
 
 pub returns : goal.returns
 returns c =

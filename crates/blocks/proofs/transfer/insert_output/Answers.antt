@@ -1,16 +1,9 @@
 -- `blocks::transfer::insert_output` meets its contract. Assumes nothing.
-use Rattle.std.proofs.Common.{◌*◌, arith}
 use Rattle.memory.specs.Scratch.{scratch}
 use Rattle.operands.specs.Instructions.{output_in}
-use Rattle.script.specs.Script.{list_of}
-use Rattle.blocks.proofs.OperandLaws.{output_there, output_missing, below-first}
+use Rattle.blocks.proofs.OperandLaws.{output_there, output_missing}
 use Rattle.blocks.proofs.UseLaws.{defined-one, defined-none}
 use Rattle.blocks.proofs.transfer.insert_output.Goals as goal
-
-pub insert-requires : goal.insert-requires
-insert-requires c =
-    let e = output_there _ (output_in c.args.instruction) c.in-Some.ensures in
-    (c.requires.0, c.requires.1, omega (arith, c.index.ensures, below-first (64 * c.args.y.words) _ (list_of (output_in c.args.instruction)) e c.requires.2))
 
 pub returns-in-Some : goal.returns-in-Some
 returns-in-Some c =

@@ -1,5 +1,6 @@
 -- `blocks::transfer::transfer` meets its contract. Assumes nothing.
 use Rattle.std.proofs.Common.{refl, sym, ap, subst, ◌∙◌, ◌*◌, arith, length}
+use Rattle.std.proofs.lemmas.Result.{err_from_is_err_and}
 use Rattle.bitset.specs.Below.{AllBelow}
 use Rattle.memory.specs.Names.{offset_cell, cost_cell}
 use Rattle.memory.specs.Scratch.{scratch, Room}
@@ -36,13 +37,15 @@ pub put-requires : goal.put-requires
 put-requires c =
     (subst (Room c.args.y) (sym c.loop-pc.invariant.long) c.requires.0, place_instructions c.args.y cost_cell c.loop-pc.pc (omega arith) (omega arith))
 
-pub returns-in_default : goal.returns-in_default
-returns-in_default c =
+pub returns-in_err-left : goal.returns-in_err-left
+returns-in_err-left c =
+    let p = err_from_is_err_and c.from_residual.result c.from_residual.ensures.1 in
     let v = c.instruction-instruction in
     let r = noted_read c.requires.1 (scratch c.args.y c.loop-pc.s) (offsets-stay c.loop-pc.invariant.going) c.loop-pc.pc (omega arith) c.get-at.ensures
     c.instruction_at.ensures v.result v.ensures.kind_is v.ensures.fields_are in
-    transferred_over (omega arith) c.loop-pc.invariant.going (c.len.ensures.value ∙ ap length (c.inputs-inputs.ensures ∙ sym r.inputs_are)) c.put.ensures
-    c.charge-c.ensures c.loop-pc-test.true c.in_default.is
+    rw (p.1, p.2) (transferred_over (omega arith) c.loop-pc.invariant.going
+    (c.len.ensures.value ∙ ap length (c.inputs-inputs.ensures ∙ sym r.inputs_are)) c.put.ensures
+    c.in_err-left.ensures c.loop-pc-test.true refl)
 
 pub use_inputs-requires : goal.use_inputs-requires
 use_inputs-requires c =
@@ -73,7 +76,7 @@ loop-pc-preserved c =
     let room : Room c.args.y (length l.s) = subst (Room c.args.y) (sym l.invariant.long) c.requires.0 in record {
       long = c.insert_output.auto.s ∙ c.use_inputs.auto.s ∙ c.put.auto.s ∙ l.invariant.long;
       going = transferring_more (omega arith) l.invariant.going (c.len.ensures.value ∙ ap length (c.inputs-inputs.ensures ∙ sym r.inputs_are)) c.put.ensures
-          c.charge-c.ensures c.args.y (scratch_sized l.s room) c.in-Ok.is (r.inputs_are ∙ sym c.inputs-inputs.ensures) r.outputs_are (omega arith) c.requires.2
+          c.in_ok-left.ensures c.args.y (scratch_sized l.s room) refl (r.inputs_are ∙ sym c.inputs-inputs.ensures) r.outputs_are (omega arith) c.requires.2
           c.use_inputs.ensures (rw c.defines.ensures at c.insert_output.ensures);
     }
 

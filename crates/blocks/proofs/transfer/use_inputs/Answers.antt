@@ -1,20 +1,11 @@
 -- `blocks::transfer::use_inputs` meets its contract. Assumes nothing.
 use Rattle.std.proofs.Common.{sym, ap, subst, ◌∙◌, ◌*◌, ℕ, List, arith}
 use Rattle.bitset.specs.Below.{AllBelow}
-use Rattle.memory.specs.Scratch.{scratch, Room}
+use Rattle.memory.specs.Scratch.{scratch}
 use Rattle.operands.specs.Instructions.{inputs_left}
 use Rattle.blocks.proofs.UseLaws.{used_at, used-more, used_all}
 use Rattle.memory.proofs.ScratchLaws.{scratch-length}
 use Rattle.blocks.proofs.transfer.use_inputs.Goals as goal
-
-pub insert_unless-requires : goal.insert_unless-requires
-insert_unless-requires c =
-    let below = subst (AllBelow (64 * c.args.y.words)) c.in-Some.ensures.steps c.loop-slot.invariant.below in (
-      subst (Room c.args.y) (sym c.loop-slot.invariant.long) c.requires.0,
-      record { low = omega (arith, c.uses.ensures); high = omega (arith, c.uses.ensures, c.requires.1) },
-      record { low = omega (arith, c.defines.ensures); high = omega (arith, c.defines.ensures, c.requires.1) },
-      omega (arith, c.index.ensures, below.0),
-    )
 
 pub loop-slot-preserved : goal.loop-slot-preserved
 loop-slot-preserved c =

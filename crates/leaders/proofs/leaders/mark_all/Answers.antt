@@ -1,5 +1,6 @@
 -- `leaders::leaders::mark_all` meets its contract. Assumes nothing.
 use Rattle.std.proofs.Common.{refl, sym, subst, ◌∙◌, arith, length}
+use Rattle.std.proofs.lemmas.Result.{err_from_is_err_and}
 use Rattle.instructions.specs.Placed.{Stands}
 use Rattle.leaders.specs.Leaders.{marking}
 use Rattle.memory.specs.Names.{offset_cell}
@@ -15,10 +16,11 @@ unfolding offset_of
 loop-pc-init c =
     record { long = refl; offset = refl; charges = charged-none c.args.limits c.args.budget; marks = marking-none c.requires.2 }
 
-pub returns-in_default : goal.returns-in_default
-returns-in_default c =
+pub returns-in_err-left : goal.returns-in_err-left
+returns-in_err-left c =
     let i = c.loop-pc.invariant in
-    leads_over c.requires.0 i.marks c.loop-pc-test.true i.charges c.charge-c.ensures c.in_default.is
+    let p = err_from_is_err_and c.from_residual.result c.from_residual.ensures.1 in
+    rw (p.1, p.2) (leads_over c.requires.0 i.marks c.loop-pc-test.true i.charges c.in_err-left.ensures)
 
 pub instruction_at-p-requires : goal.instruction_at-p-requires
 instruction_at-p-requires c =
@@ -46,7 +48,7 @@ loop-pc-preserved c =
     let room : Room (marking c.args.script) (length l.s) = subst (Room (marking c.args.script)) (sym l.invariant.long) c.requires.1 in record {
       long = c.mark.auto.s ∙ c.put.auto.s ∙ l.invariant.long;
       offset = next_at c.requires.0 l.pc c.instruction_at-p.ensures l.invariant.offset;
-      charges = ones_more c.args.limits c.args.budget l.pc l.invariant.charges ∙ sym c.charge-c.ensures ∙ c.in-Ok.is;
+      charges = ones_more c.args.limits c.args.budget l.pc l.invariant.charges ∙ sym c.charge.ensures ∙ c.in_ok-left.was;
       marks = marking_placed c.requires.0 l.pc c.instruction_at-p.ensures l.invariant.offset c.instruction.result c.instruction.ensures.kind_is c.instruction.ensures.fields_are
           l.invariant.marks (scratch_sized l.s room) c.loop-pc-test.true c.put.ensures c.mark.ensures;
     }

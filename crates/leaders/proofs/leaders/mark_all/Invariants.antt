@@ -1,6 +1,5 @@
-use Rattle.std.proofs.Common.{◌≡◌, length, replicate}
+use Rattle.std.proofs.Common.{◌≡◌, length, replicate, Ok}
 use Rattle.budget.specs.Budget.{charged}
-use Rattle.budget.specs.declared.Charged.TheVariants.{Ok}
 use Rattle.instructions.specs.Sound.{code_offset}
 use Rattle.leaders.specs.Leaders.{marking}
 use Rattle.memory.specs.Scratch.{scratch}
