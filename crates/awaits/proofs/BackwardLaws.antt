@@ -10,21 +10,20 @@ use Rattle.dataflow.specs.Analyses.{live_transfer, live_along}
 use Rattle.dataflow.specs.Code.{Instruction, program, await_at}
 use Rattle.budget.specs.declared.FlowBudget.{FlowBudget}
 use Rattle.budget.specs.declared.Limits.{Limits}
-use Rattle.format.specs.declared.refusal.Refusal.{Refusal}
 use Rattle.memory.specs.Cells.{Mem, cell, store_cell}
 use Rattle.memory.specs.Names.{offset_cell, cost_cell, live_state_row, hosts_row, await_entry}
 use Rattle.sizes.specs.declared.Layout.{Layout}
+use Rattle.sizes.specs.declared.Stopped.{Stopped}
 use Rattle.memory.proofs.CellLaws.{cell-store_same, cell-store_other}
 use Rattle.sheet.specs.declared.script.Script.{Script}
 use Rattle.sheet.specs.Decode.{parts_of}
 use Rattle.script.specs.Script.{flow_code, host_in}
-use Rattle.awaits.specs.declared.Points.{Points}
-use Rattle.awaits.specs.declared.Points.TheVariants.{Passed, Refused}
+use Rattle.std.specs.Prelude.{Ok, Err}
 use Rattle.answer.specs.Words.{Means}
 use Rattle.verdict.specs.Points.{Checking, on, and_then, Point, point_run, awaits_run, await_points}
-use Rattle.reads.specs.Reads.{Coded, awaits_among}
-use Rattle.awaits.specs.Awaits.{points_of, Entry, Entries, InstructionChecked, AwaitsChecked}
-use Rattle.reads.proofs.ReadLaws.{coded_kept}
+use Rattle.reads.specs.Reads.{Checked, checking_of, Coded, awaits_among}
+use Rattle.awaits.specs.Awaits.{Entry, Entries, InstructionChecked, AwaitsChecked}
+use Rattle.reads.proofs.ReadLaws.{refused-not_passed, same_count, coded_kept}
 use Rattle.awaits.proofs.ChargeLaws.{stop-stays}
 
 -- ---- awaits counted from the back
@@ -174,46 +173,45 @@ module _ {s : List ℕ} {x : Script} {y : Layout} {l : Limits} {budget : FlowBud
 
   module _ {left : FlowBudget} {pc next : ℕ} {m₁ t₁ : Mem} (a : Awaiting s x y l budget left end pc place next m m₁ t t₁) where
     -- all of them
-    pub awaits_passed : {start : ℕ} → pc ≡ start → AwaitsChecked s x y l budget start end place m m₁ t t₁ (Passed next left)
+    pub awaits_passed : {start : ℕ} → pc ≡ start → AwaitsChecked s x y l budget start end place m m₁ t t₁ (Ok (next, left))
     awaits_passed {start} q =
         let b = subst (λ (k : ℕ). Awaiting s x y l budget left end k place next m m₁ t t₁) q a in
         record {
           answer = λ parameter g h. sym (b.run parameter g h);
-          places = λ n z e. let w : next ≡ n = cc in omega (arith, b.places);
-          entries = λ n z e parameter g h. let w : next ≡ n = cc in subst (λ (k : ℕ). Entries y t₁ k (points_from s parameter end g start)) w (b.entries parameter g h);
+          places = λ n z e. omega (arith, same_count e, b.places);
+          entries = λ n z e parameter g h. subst (λ (k : ℕ). Entries y t₁ k (points_from s parameter end g start)) (same_count e) (b.entries parameter g h);
           others = b.others;
-          other_sets = λ n z e k h. let w : next ≡ n = cc in b.other_sets k (omega arith);
+          other_sets = λ n z e k h. b.other_sets k (omega (arith, same_count e));
         }
 
-    module _ {pc₁ : ℕ} (q : pc ≡ suc pc₁) (high : pc ≤ end) {m₂ t₂ : Mem} {r : Points}
+    module _ {pc₁ : ℕ} (q : pc ≡ suc pc₁) (high : pc ≤ end) {m₂ t₂ : Mem} {r : Checked}
         (c : InstructionChecked s x y l left pc₁ next m₁ m₂ t₁ t₂ r) where
       behind : Awaiting s x y l budget left end (suc pc₁) place next m m₁ t t₁
       behind = subst (λ (k : ℕ). Awaiting s x y l budget left end k place next m m₁ t t₁) q a
 
       -- the run comes to the answer of the instruction
-      run_more : (parameter g : ℕ → Bool) → Means y.words (cell m (live_state_row y.blocks)) g → run_from s parameter x y l end g budget pc₁ ≡ points_of r
+      run_more : (parameter g : ℕ → Bool) → Means y.words (cell m (live_state_row y.blocks)) g → run_from s parameter x y l end g budget pc₁ ≡ checking_of r
       run_more parameter g h =
           run-first s parameter x y l end g pc₁ (omega arith) budget
           ∙ ap (λ (v : Checking). and_then v (point_from s parameter x y l end g pc₁)) (behind.run parameter g h)
           ∙ sym (c.answer parameter (live_from s parameter end g (suc pc₁)) (behind.row parameter g h))
 
       -- the instruction is refused
-      pub awaits_stopped : {start : ℕ} → start ≤ pc₁ → {u : Refusal} {z : FlowBudget} → r ≡ Refused u z
-          → AwaitsChecked s x y l budget start end place m m₂ t t₂ r
+      pub awaits_stopped : {start : ℕ} → start ≤ pc₁ → {u : Stopped} → r ≡ Err u → AwaitsChecked s x y l budget start end place m m₂ t t₂ (Err u)
       awaits_stopped {start} low e = record {
-        answer = λ parameter g h. ap points_of e ∙ sym (stop-stays (run_from s parameter x y l end g budget) (point_from s parameter x y l end g) end
-            (λ k lt. run-first s parameter x y l end g k lt budget) start pc₁ low (omega arith) (run_more parameter g h ∙ ap points_of e));
-        places = λ n v w. let o : ◌≡◌ {A = ℕ} 0 1 = cc in absurd (omega arith);
-        entries = λ n v w. let o : ◌≡◌ {A = ℕ} 0 1 = cc in absurd (omega arith);
+        answer = λ parameter g h. sym (stop-stays (run_from s parameter x y l end g budget) (point_from s parameter x y l end g) end
+            (λ k lt. run-first s parameter x y l end g k lt budget) start pc₁ low (omega arith) (run_more parameter g h ∙ ap checking_of e));
+        places = λ n v w. absurd (refused-not_passed w);
+        entries = λ n v w. absurd (refused-not_passed w);
         others = λ k h. c.others k h ∙ a.others k h;
-        other_sets = λ n v w. let o : ◌≡◌ {A = ℕ} 0 1 = cc in absurd (omega arith);
+        other_sets = λ n v w. absurd (refused-not_passed w);
       }
 
       -- one instruction more
-      pub awaiting_more : {n : ℕ} {paid : FlowBudget} → r ≡ Passed n paid → await_entry y.blocks next ≤ length t₁
+      pub awaiting_more : {n : ℕ} {paid : FlowBudget} → r ≡ Ok (n, paid) → await_entry y.blocks next ≤ length t₁
           → Awaiting s x y l budget paid end pc₁ place n m m₂ t t₂
       awaiting_more {n} {paid} e room = record {
-        run = λ parameter g h. run_more parameter g h ∙ ap points_of e;
+        run = λ parameter g h. run_more parameter g h ∙ ap checking_of e;
         row = λ parameter g h i o. c.row n paid e parameter (live_from s parameter end g (suc pc₁)) (behind.row parameter g h) i o ∙ sym (live-first s parameter end g pc₁ (omega arith) i);
         places = omega (arith, c.places n paid e, behind.places, awaits-first (flow_code (parts_of s)) pc₁ end (omega arith));
         entries = λ parameter g h. subst (Entries y t₂ n) (sym (points-first s parameter end g pc₁ (omega arith)))

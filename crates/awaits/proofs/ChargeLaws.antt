@@ -12,17 +12,17 @@ use Rattle.dataflow.specs.Code.{Instruction, program, await_at}
 use Rattle.dataflow.specs.Charges.{cost_at}
 use Rattle.budget.specs.declared.FlowBudget.{FlowBudget}
 use Rattle.budget.specs.declared.Limits.{Limits}
-use Rattle.budget.specs.declared.Charged.{Charged}
-use Rattle.budget.specs.declared.Charged.TheVariants.{Ok, Over}
-use Rattle.budget.specs.Budget.{charged, budget_of}
+use Rattle.budget.specs.declared.OverWork.{OverWork}
+use Rattle.std.specs.Prelude.{Ok, Err}
+use Rattle.budget.specs.Budget.{Charged, charged}
+use Rattle.sizes.specs.Stages.{stopped}
 use Rattle.format.specs.declared.refusal.Refusal.{Refusal}
 use Rattle.format.specs.declared.refusal.Refusal.TheVariants.{WorkLimit}
 use Rattle.memory.specs.Cells.{Mem, word}
 use Rattle.memory.specs.Names.{cost_cell}
-use Rattle.awaits.specs.declared.Points.{Points}
-use Rattle.awaits.specs.declared.Points.TheVariants.{Passed, Refused}
+use Rattle.reads.proofs.ReadLaws.{refused-not_passed, same_count}
 use Rattle.verdict.specs.Points.{Checking, stop, on, and_then, if_paid, await_run, point_run, awaits_run}
-use Rattle.awaits.specs.Awaits.{points_of, back_run, ChargedBack}
+use Rattle.awaits.specs.Awaits.{back_run, ChargedBack}
 
 -- ---- a run from the back
 
@@ -60,32 +60,29 @@ module _ (cost : ℕ → ℕ) (l : Limits) (b : FlowBudget) (end : ℕ) where
 module _ (m : Mem) (l : Limits) (b : FlowBudget) (start end place pc : ℕ) (left : FlowBudget)
     (a : back_from (word m cost_cell) l b end pc ≡ on left) where
   -- all are charged
-  pub back_passed : pc ≡ start → ChargedBack l b start end place m (Passed place left)
+  pub back_passed : pc ≡ start → ChargedBack l b start end place m (Ok (place, left))
   back_passed q = record {
     answer = sym a ∙ ap (back_from (word m cost_cell) l b end) q;
-    places = λ n z e. let w : place ≡ n = cc in sym w;
+    places = λ n z e. sym (same_count e);
   }
 
-  module _ (pc₁ : ℕ) (q : pc ≡ suc pc₁) (high : pc ≤ end) (cost : ℕ) (ec : cost ≡ word m cost_cell pc₁) (c : Charged)
-      (e : c ≡ charged l left (cost ∷ [])) where
-    back-next : back_from (word m cost_cell) l b end pc₁ ≡ if_paid c on
-    back-next =
+  module _ (pc₁ : ℕ) (q : pc ≡ suc pc₁) (high : pc ≤ end) {cost : ℕ} (ec : cost ≡ word m cost_cell pc₁) where
+    back-next : {c : Charged} → c ≡ charged l left (cost ∷ []) → back_from (word m cost_cell) l b end pc₁ ≡ if_paid c on
+    back-next e =
         back-first (word m cost_cell) l b end pc₁ (omega arith)
         ∙ ap (λ (v : Checking). and_then v (λ b'. if_paid (charged l b' (word m cost_cell pc₁ ∷ [])) on))
         (ap (back_from (word m cost_cell) l b end) (sym q) ∙ a)
         ∙ ap (λ (n : ℕ). if_paid (charged l left (n ∷ [])) on) (sym ec) ∙ ap (λ (v : Charged). if_paid v on) (sym e)
 
     -- one more
-    pub back_more : (paid : FlowBudget) → c ≡ Ok paid → back_from (word m cost_cell) l b end pc₁ ≡ on paid
-    back_more paid f = back-next ∙ ap (λ (v : Charged). if_paid v on) f
+    pub back_more : {paid : FlowBudget} → Ok paid ≡ charged l left (cost ∷ []) → back_from (word m cost_cell) l b end pc₁ ≡ on paid
+    back_more e = back-next e
 
     -- the limit is crossed
-    pub back_over : start ≤ pc₁ → (z : FlowBudget) → c ≡ Over z → (r : Points) → r ≡ Refused WorkLimit (budget_of c)
-        → ChargedBack l b start end place m r
-    back_over low z f r g = let h : r ≡ Refused WorkLimit z = g ∙ ap (λ (w : Charged). Refused WorkLimit (budget_of w)) f in record {
-      answer = ap points_of h ∙ sym (stop-stays (back_from (word m cost_cell) l b end) _ end (back-first (word m cost_cell) l b end) start pc₁ low
-          (omega arith) (back-next ∙ ap (λ (v : Charged). if_paid v on) f));
-      places = λ n v w. let o : ◌≡◌ {A = ℕ} 0 1 = cc in absurd (omega arith);
+    pub back_over : start ≤ pc₁ → {z : OverWork} → Err z ≡ charged l left (cost ∷ []) → ChargedBack l b start end place m (stopped WorkLimit z.budget)
+    back_over low e = record {
+      answer = sym (stop-stays (back_from (word m cost_cell) l b end) _ end (back-first (word m cost_cell) l b end) start pc₁ low (omega arith) (back-next e));
+      places = λ n v w. absurd (refused-not_passed w);
     }
 
 -- ---- a list without awaits

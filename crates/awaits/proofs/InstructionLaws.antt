@@ -18,14 +18,15 @@ use Rattle.dataflow.proofs.Bools.{and_left, and_right, same_truth}
 use Rattle.dataflow.proofs.Lists.{mem-range, some_at, some_to}
 use Rattle.budget.specs.declared.FlowBudget.{FlowBudget}
 use Rattle.budget.specs.declared.Limits.{Limits}
-use Rattle.budget.specs.declared.Charged.{Charged}
-use Rattle.budget.specs.declared.Charged.TheVariants.{Ok, Over}
-use Rattle.budget.specs.Budget.{charged, retained, facts_bytes, budget_of}
+use Rattle.budget.specs.declared.OverWork.{OverWork}
+use Rattle.std.specs.Prelude.{Ok, Err}
+use Rattle.budget.specs.Budget.{Charged, charged, retained, facts_bytes}
 use Rattle.format.specs.Types.{absent}
 use Rattle.format.specs.declared.refusal.Refusal.TheVariants.{WorkLimit, HostOverAwait}
 use Rattle.memory.specs.Cells.{Mem, cell, store_cell}
 use Rattle.memory.specs.Names.{live_state_row, hosts_row, await_entry}
 use Rattle.sizes.specs.declared.Layout.{Layout}
+use Rattle.sizes.specs.Stages.{stopped}
 use Rattle.memory.proofs.CellLaws.{cell-store_same, cell-store_other}
 use Rattle.operands.specs.Kinds.{is_await}
 use Rattle.sheet.specs.declared.script.Script.{Script}
@@ -33,13 +34,12 @@ use Rattle.sheet.specs.Decode.{Parts, parts_of, is_host}
 use Rattle.bitset.specs.Below.{AllBelow}
 use Rattle.instructions.specs.Sets.{inserted_all}
 use Rattle.script.specs.Script.{flow_code, host_in}
-use Rattle.awaits.specs.declared.Points.{Points}
-use Rattle.awaits.specs.declared.Points.TheVariants.{Refused}
 use Rattle.answer.specs.Words.{Means}
 use Rattle.verdict.specs.Points.{Checking, stop, if_paid, if_kept, await_run, point_run}
-use Rattle.reads.specs.Reads.{Coded}
-use Rattle.awaits.specs.Awaits.{points_of, await_rows, AwaitChecked, InstructionChecked}
+use Rattle.reads.specs.Reads.{Checked, Coded}
+use Rattle.awaits.specs.Awaits.{await_rows, AwaitChecked, InstructionChecked}
 use Rattle.awaits.specs.Awaits.{removed_all}
+use Rattle.reads.proofs.ReadLaws.{refused-not_passed}
 use Rattle.awaits.proofs.MeansLaws.{means-live}
 
 -- ---- a slot in common
@@ -89,24 +89,23 @@ same-pick v a b n e f = go v f ∙ ap (λ (u : Bool). pick u b n) (sym e)
 -- ---- one instruction
 
 module _ (s : List ℕ) (x : Script) (y : Layout) (l : Limits) (b : FlowBudget) (pc place : ℕ) (m t : Mem) (ok : Coded s x y m)
-    (cost : ℕ) (ec : cost ≡ cost_at (flow_code (parts_of s)) pc) (c : Charged) (e : c ≡ charged l b (cost ∷ [])) where
+    (cost : ℕ) (ec : cost ≡ cost_at (flow_code (parts_of s)) pc) where
   -- the charge is the run's
-  charge_is : charged l b (cost_at (flow_code (parts_of s)) pc ∷ []) ≡ c
-  charge_is = ap (λ (n : ℕ). charged l b (n ∷ [])) (sym ec) ∙ sym e
+  charge_is : {c : Charged} → c ≡ charged l b (cost ∷ []) → charged l b (cost_at (flow_code (parts_of s)) pc ∷ []) ≡ c
+  charge_is e = ap (λ (n : ℕ). charged l b (n ∷ [])) (sym ec) ∙ sym e
 
   -- the charge crosses the limit
-  pub instruction_over : (z : FlowBudget) (r : Points) → c ≡ Over z → r ≡ Refused WorkLimit (budget_of c)
-      → InstructionChecked s x y l b pc place m m t t r
+  pub instruction_over : {z : OverWork} → Err z ≡ charged l b (cost ∷ []) → InstructionChecked s x y l b pc place m m t t (stopped WorkLimit z.budget)
   unfolding point_run
-  instruction_over z r f g = let q : r ≡ Refused WorkLimit z = g ∙ ap (λ (w : Charged). Refused WorkLimit (budget_of w)) f in record {
-    answer = λ parameter u h. ap points_of q ∙ sym (rw (charge_is ∙ f) refl);
-    row = λ n left v. let o : ◌≡◌ {A = ℕ} 0 1 = cc in absurd (omega arith);
-    places = λ n left v. let o : ◌≡◌ {A = ℕ} 0 1 = cc in absurd (omega arith);
-    entry = λ n left v. let o : ◌≡◌ {A = ℕ} 0 1 = cc in absurd (omega arith);
+  instruction_over e = record {
+    answer = λ parameter u h. sym (rw (charge_is e) refl);
+    row = λ n left v. absurd (refused-not_passed v);
+    places = λ n left v. absurd (refused-not_passed v);
+    entry = λ n left v. absurd (refused-not_passed v);
     others = λ k h. refl;
   }
 
-  module _ (paid : FlowBudget) (f : c ≡ Ok paid) (k : ℕ) (ek : k ≡ live_state_row y.blocks) (lt : k < length m)
+  module _ {paid : FlowBudget} (e : Ok paid ≡ charged l b (cost ∷ [])) (k : ℕ) (ek : k ≡ live_state_row y.blocks) (lt : k < length m)
       (wide : length (cell m k) ≡ y.words) (outs ins : List ℕ) (eo : (instruction_at (flow_code (parts_of s)) pc).outputs ≡ outs)
       (ei : (instruction_at (flow_code (parts_of s)) pc).inputs ≡ ins) (ob : AllBelow (64 * y.words) outs) (ib : AllBelow (64 * y.words) ins)
       (m₁ m₂ : Mem) (e₁ : m₁ ≡ store_cell m k (removed_all outs (cell m k))) (lt₁ : k < length m₁)
@@ -136,7 +135,7 @@ module _ (s : List ℕ) (x : Script) (y : Layout) (l : Limits) (b : FlowBudget) 
         (sym (other-stays (hosts_row y.blocks) (λ q. omega arith))) (ok.hosts some)
 
     module _ (hw : Words y.words (cell m₂ (hosts_row y.blocks))) (lw : Words y.words (cell m₂ (live_state_row y.blocks)))
-        (kind : ℕ) (await : await_at (flow_code (parts_of s)) pc ≡ is_await kind) (some : is_await kind ≡ true → 0 < y.awaits) (t' : Mem) (r : Points)
+        (kind : ℕ) (await : await_at (flow_code (parts_of s)) pc ≡ is_await kind) (some : is_await kind ≡ true → 0 < y.awaits) (t' : Mem) (r : Checked)
         (d : AwaitChecked (is_await kind) y l x.slots paid pc place m₂ t t' r) where
       await-run : is_await kind ≡ true → (parameter g : ℕ → Bool) → Means y.words (cell m (live_state_row y.blocks)) g → await_rows y l x.slots m₂ paid
           ≡ await_run (flow_code (parts_of s)) parameter l y.words x.slots (host_in (parts_of s))
@@ -150,7 +149,7 @@ module _ (s : List ℕ) (x : Script) (y : Layout) (l : Limits) (b : FlowBudget) 
       unfolding point_run
       instruction_met = record {
         answer = λ parameter g h. d.answer
-            ∙ same-pick (is_await kind) _ _ _ await (λ q. await-run q parameter g h) ∙ sym (rw (charge_is ∙ f) refl);
+            ∙ same-pick (is_await kind) _ _ _ await (λ q. await-run q parameter g h) ∙ sym (rw (charge_is e) refl);
         row = λ n left q parameter g h. live-before parameter g h;
         places = λ n left q. ap (λ (v : Bool). n + pick v 1 0) await ∙ d.places n left q;
         entry = λ n left q. d.entry n left q

@@ -1,5 +1,5 @@
 -- The awaits of one block, over the words: what `check_points` of flow.rs does there from the back.
-use Rattle.std.specs.Prelude.{◌≡◌, Bool, List, [], ◌∷◌, ℕ, ◌+◌, ◌-◌, ◌<◌}
+use Rattle.std.specs.Prelude.{◌≡◌, Bool, List, [], ◌∷◌, ℕ, ◌+◌, ◌-◌, ◌<◌, Ok}
 use Rattle.bitset.specs.Operations.{common, removed}
 use Rattle.dataflow.specs.Lists.{pick, range}
 use Rattle.dataflow.specs.Analyses.{live_transfer}
@@ -16,19 +16,12 @@ use Rattle.sheet.specs.Decode.{parts_of}
 use Rattle.script.specs.Script.{flow_code, host_in}
 use Rattle.answer.specs.Words.{Means}
 use Rattle.verdict.specs.Points.{Checking, stop, on, and_then, if_paid, if_kept, Point, point_run, awaits_run, await_points}
-use Rattle.reads.specs.Reads.{awaits_among}
-use Rattle.awaits.specs.declared.Points.{Points}
-use Rattle.awaits.specs.declared.Points.TheVariants.{Passed, Refused}
+use Rattle.reads.specs.Reads.{Checked, checking_of, awaits_among}
 
 -- a set with these slots taken out
 unfoldable pub removed_all : List ℕ → List ℕ → List ℕ
 removed_all [] ws = ws
 removed_all (x ∷ xs) ws = removed_all xs (removed ws x)
-
--- an answer as that of the run
-abbrev pub points_of : Points → Checking
-points_of (Passed n b) = on b
-points_of (Refused r b) = stop r b
 
 -- an await by rows: the slot count is charged, then 14 if the rows have a slot in common, then its facts are retained, then 15
 unfoldable pub await_rows : Layout → Limits → ℕ → Mem → FlowBudget → Checking
@@ -36,21 +29,21 @@ await_rows y l slots m b = if_paid (charged l b (slots ∷ [])) (λ b'. pick (co
     (stop HostOverAwait b') (if_kept (retained l b' (facts_bytes y.words))))
 
 -- what `check_point` does: nothing if there is no await; else its facts are put before entry `place`
-pub record AwaitChecked (await : Bool) (y : Layout) (l : Limits) (slots : ℕ) (b : FlowBudget) (pc place : ℕ) (m t t' : Mem) (r : Points) : Type 0 where
-  pub answer : points_of r ≡ pick await (await_rows y l slots m b) (on b)
-  pub places : (n : ℕ) (left : FlowBudget) → r ≡ Passed n left → n + pick await 1 0 ≡ place
-  pub entry : (n : ℕ) (left : FlowBudget) → r ≡ Passed n left
+pub record AwaitChecked (await : Bool) (y : Layout) (l : Limits) (slots : ℕ) (b : FlowBudget) (pc place : ℕ) (m t t' : Mem) (r : Checked) : Type 0 where
+  pub answer : checking_of r ≡ pick await (await_rows y l slots m b) (on b)
+  pub places : (n : ℕ) (left : FlowBudget) → r ≡ Ok (n, left) → n + pick await 1 0 ≡ place
+  pub entry : (n : ℕ) (left : FlowBudget) → r ≡ Ok (n, left)
       → t' ≡ pick await (store_cell t (await_entry y.blocks n) (pc ∷ cell m (live_state_row y.blocks))) t
 
 -- what `check_instruction` does at pc, whichever slots are parameters: its cost is charged, the live row becomes the one before it, and an await there is checked
-pub record InstructionChecked (s : List ℕ) (x : Script) (y : Layout) (l : Limits) (b : FlowBudget) (pc place : ℕ) (m m' t t' : Mem) (r : Points) : Type 0 where
+pub record InstructionChecked (s : List ℕ) (x : Script) (y : Layout) (l : Limits) (b : FlowBudget) (pc place : ℕ) (m m' t t' : Mem) (r : Checked) : Type 0 where
   pub answer : (parameter g : ℕ → Bool) → Means y.words (cell m (live_state_row y.blocks)) g
-      → points_of r ≡ point_run (flow_code (parts_of s)) parameter l y.words x.slots (host_in (parts_of s)) pc
+      → checking_of r ≡ point_run (flow_code (parts_of s)) parameter l y.words x.slots (host_in (parts_of s)) pc
       (λ i. live_transfer (program (flow_code (parts_of s)) parameter) pc i (g i)) b
-  pub row : (n : ℕ) (left : FlowBudget) → r ≡ Passed n left → (parameter g : ℕ → Bool) → Means y.words (cell m (live_state_row y.blocks)) g
+  pub row : (n : ℕ) (left : FlowBudget) → r ≡ Ok (n, left) → (parameter g : ℕ → Bool) → Means y.words (cell m (live_state_row y.blocks)) g
       → Means y.words (cell m' (live_state_row y.blocks)) (λ i. live_transfer (program (flow_code (parts_of s)) parameter) pc i (g i))
-  pub places : (n : ℕ) (left : FlowBudget) → r ≡ Passed n left → n + pick (await_at (flow_code (parts_of s)) pc) 1 0 ≡ place
-  pub entry : (n : ℕ) (left : FlowBudget) → r ≡ Passed n left
+  pub places : (n : ℕ) (left : FlowBudget) → r ≡ Ok (n, left) → n + pick (await_at (flow_code (parts_of s)) pc) 1 0 ≡ place
+  pub entry : (n : ℕ) (left : FlowBudget) → r ≡ Ok (n, left)
       → t' ≡ pick (await_at (flow_code (parts_of s)) pc) (store_cell t (await_entry y.blocks n) (pc ∷ cell m' (live_state_row y.blocks))) t
   pub others : (k : ℕ) → (k ≡ live_state_row y.blocks → ⊥) → cell m' k ≡ cell m k
 
@@ -64,14 +57,14 @@ Entries y t first [] = Unit {0}
 Entries y t first (p ∷ ps) = Entry y.words (cell t (await_entry y.blocks first)) p × Entries y t (first + 1) ps
 
 -- what `check_awaits` does with the instructions from start to end, whichever slots are parameters: its awaits' facts stand before entry `place`
-pub record AwaitsChecked (s : List ℕ) (x : Script) (y : Layout) (l : Limits) (b : FlowBudget) (start end place : ℕ) (m m' t t' : Mem) (r : Points) : Type 0 where
+pub record AwaitsChecked (s : List ℕ) (x : Script) (y : Layout) (l : Limits) (b : FlowBudget) (start end place : ℕ) (m m' t t' : Mem) (r : Checked) : Type 0 where
   pub answer : (parameter g : ℕ → Bool) → Means y.words (cell m (live_state_row y.blocks)) g
-      → points_of r ≡ awaits_run (flow_code (parts_of s)) parameter l y.words x.slots (host_in (parts_of s)) g (range start (end - start)) b
-  pub places : (n : ℕ) (left : FlowBudget) → r ≡ Passed n left → n + awaits_among (flow_code (parts_of s)) start end ≡ place
-  pub entries : (n : ℕ) (left : FlowBudget) → r ≡ Passed n left → (parameter g : ℕ → Bool) → Means y.words (cell m (live_state_row y.blocks)) g
+      → checking_of r ≡ awaits_run (flow_code (parts_of s)) parameter l y.words x.slots (host_in (parts_of s)) g (range start (end - start)) b
+  pub places : (n : ℕ) (left : FlowBudget) → r ≡ Ok (n, left) → n + awaits_among (flow_code (parts_of s)) start end ≡ place
+  pub entries : (n : ℕ) (left : FlowBudget) → r ≡ Ok (n, left) → (parameter g : ℕ → Bool) → Means y.words (cell m (live_state_row y.blocks)) g
       → Entries y t' n (await_points (flow_code (parts_of s)) parameter g (range start (end - start)))
   pub others : (k : ℕ) → (k ≡ live_state_row y.blocks → ⊥) → cell m' k ≡ cell m k
-  pub other_sets : (n : ℕ) (left : FlowBudget) → r ≡ Passed n left → (k : ℕ) → k < await_entry y.blocks n → cell t' k ≡ cell t k
+  pub other_sets : (n : ℕ) (left : FlowBudget) → r ≡ Ok (n, left) → (k : ℕ) → k < await_entry y.blocks n → cell t' k ≡ cell t k
 
 -- the costs of a list charged one by one, from the back
 unfoldable pub back_run : (ℕ → ℕ) → Limits → List ℕ → FlowBudget → Checking
@@ -79,6 +72,6 @@ back_run cost l [] b = on b
 back_run cost l (i ∷ is) b = and_then (back_run cost l is b) (λ b'. if_paid (charged l b' (cost i ∷ [])) on)
 
 -- what `charge_back` does with the instructions from start to end: their costs are charged, and the place is the same
-pub record ChargedBack (l : Limits) (b : FlowBudget) (start end place : ℕ) (m : Mem) (r : Points) : Type 0 where
-  pub answer : points_of r ≡ back_run (word m cost_cell) l (range start (end - start)) b
-  pub places : (n : ℕ) (left : FlowBudget) → r ≡ Passed n left → n ≡ place
+pub record ChargedBack (l : Limits) (b : FlowBudget) (start end place : ℕ) (m : Mem) (r : Checked) : Type 0 where
+  pub answer : checking_of r ≡ back_run (word m cost_cell) l (range start (end - start)) b
+  pub places : (n : ℕ) (left : FlowBudget) → r ≡ Ok (n, left) → n ≡ place

@@ -13,22 +13,16 @@ ghost use Rattle.script.specs.Script.{flow_code};
 ghost use Rattle.reads.specs.Reads.{Coded, awaits_among};
 ghost use Rattle.awaits.specs.Awaits.{AwaitChecked, InstructionChecked, AwaitsChecked, ChargedBack};
 
-use budget::{Charged, FlowBudget, Limits};
+use budget::{FlowBudget, Limits};
 use format::refusal::Refusal;
 use instructions::placed;
 use memory::layout;
 use operands::kind::Kind;
 use sheet::script::Script;
-use sizes::Layout;
-
-// It passed, with the entry that the next await before it is put before; or why it is refused.
-#[derive(Clone, Copy)]
-pub enum Points {
-    Passed(usize, FlowBudget),
-    Refused(Refusal, FlowBudget),
-}
+use sizes::{Layout, Stopped};
 
 // The awaits among the instructions from start to end, from the back; their facts are put before entry `place`.
+// Like each check here, it answers with the entry that the next await before them is put before.
 pub fn check_awaits(
     sheet: &[u8],
     s: &mut [u64],
@@ -40,7 +34,7 @@ pub fn check_awaits(
     place: usize,
     limits: Limits,
     budget: FlowBudget,
-) -> Points
+) -> Result<(usize, FlowBudget), Stopped>
     requires { Room y (length s.old) × SetsRoom y (length t.old) × (Coded sheet.now script y (scratch y s.old)) × (start ≤ end) × (end ≤ y.instructions)
         × (awaits_among (flow_code (parts_of sheet.now)) start end ≤ place) × (place ≤ y.awaits) }
     ensures { AwaitsChecked sheet.now script y limits budget start end place (scratch y s.old) (scratch y s.new) (sets y t.old) (sets y t.new) result }
@@ -48,14 +42,11 @@ pub fn check_awaits(
     let mut left = budget;
     let mut next = place;
     for pc in (start..end).rev() {
-        let r = check_instruction(sheet, s, t, script, y, pc, next, limits, left);
-        let Points::Passed(n, paid) = r else {
-            return r;
-        };
+        let (n, paid) = check_instruction(sheet, s, t, script, y, pc, next, limits, left)?;
         next = n;
         left = paid;
     }
-    Points::Passed(next, left)
+    Ok((next, left))
 }
 
 // The costs from start to end, from the back: all that is charged where there is no await.
@@ -67,20 +58,15 @@ pub fn charge_back(
     place: usize,
     limits: Limits,
     budget: FlowBudget,
-) -> Points
+) -> Result<(usize, FlowBudget), Stopped>
     requires { Room y (length s.now) × (start ≤ end) × (end ≤ y.instructions) }
     ensures { ChargedBack limits budget start end place (scratch y s.now) result }
 {
     let mut left = budget;
     for pc in (start..end).rev() {
-        let cost = memory::scratch::get(s, y, layout::COST, pc);
-        let c = left.charge(cost, limits);
-        let Charged::Ok(b) = c else {
-            return Points::Refused(Refusal::WorkLimit, c.budget());
-        };
-        left = b;
+        left = left.charge(memory::scratch::get(s, y, layout::COST, pc), limits)?;
     }
-    Points::Passed(place, left)
+    Ok((place, left))
 }
 
 // One instruction: its cost is charged, the live row becomes the one before it, and an await is checked there.
@@ -94,22 +80,19 @@ fn check_instruction(
     place: usize,
     limits: Limits,
     budget: FlowBudget,
-) -> Points
+) -> Result<(usize, FlowBudget), Stopped>
     requires { Room y (length s.old) × SetsRoom y (length t.old) × (Coded sheet.now script y (scratch y s.old)) × (pc < y.instructions)
         × (await_at (flow_code (parts_of sheet.now)) pc ≡ true → 0 < place) × (place ≤ y.awaits) }
     ensures { InstructionChecked sheet.now script y limits budget pc place (scratch y s.old) (scratch y s.new) (sets y t.old) (sets y t.new) result }
 {
     let live = layout::live_state(y);
     let cost = memory::scratch::get(s, y, layout::COST, pc);
-    let c = budget.charge(cost, limits);
-    let Charged::Ok(b) = c else {
-        return Points::Refused(Refusal::WorkLimit, c.budget());
-    };
+    let left = budget.charge(cost, limits)?;
     let at = memory::scratch::get(s, y, layout::OFFSET, pc) as usize;
     let instruction = placed::instruction_at(sheet, at).instruction();
     slots::remove_output(s, y, live, instruction);
     slots::insert_inputs(s, y, live, instruction.inputs());
-    check_point(s, t, script, y, instruction.kind, pc, place, limits, b)
+    check_point(s, t, script, y, instruction.kind, pc, place, limits, left)
 }
 
 // An instruction that is no await passes.
@@ -123,14 +106,14 @@ pub fn check_point(
     place: usize,
     limits: Limits,
     budget: FlowBudget,
-) -> Points
+) -> Result<(usize, FlowBudget), Stopped>
     requires { Room y (length s.now) × SetsRoom y (length t.old) × (is_await (kind_number kind) ≡ true → 0 < place) × (place ≤ y.awaits) × (y.words ≤ 1024) }
     ensures { AwaitChecked (is_await (kind_number kind)) y limits script.slots budget pc place (scratch y s.now) (sets y t.old) (sets y t.new) result }
 {
     if kind.is_await() {
         return check_await(s, t, script.slots, y, pc, place - 1, limits, budget);
     }
-    Points::Passed(place, budget)
+    Ok((place, budget))
 }
 
 // An await: the slot count is charged, then 14, then its facts are retained, 15, and put.
@@ -143,21 +126,18 @@ fn check_await(
     place: usize,
     limits: Limits,
     budget: FlowBudget,
-) -> Points
+) -> Result<(usize, FlowBudget), Stopped>
     requires { Room y (length s.now) × SetsRoom y (length t.old) × (place < y.awaits) }
     ensures { AwaitChecked true y limits slots budget pc (place + 1) (scratch y s.now) (sets y t.old) (sets y t.new) result }
 {
-    let c = budget.charge(slots as u64, limits);
-    let Charged::Ok(b) = c else {
-        return Points::Refused(Refusal::WorkLimit, c.budget());
-    };
+    let paid = budget.charge(slots as u64, limits)?;
     if rows::common(s, y, layout::hosts(y), layout::live_state(y)) {
-        return Points::Refused(Refusal::HostOverAwait, b);
+        return Err(Stopped {
+            why: Refusal::HostOverAwait,
+            budget: paid,
+        });
     }
-    let k = b.retain(budget::facts_bytes(y.words), limits);
-    let Charged::Ok(kept) = k else {
-        return Points::Refused(Refusal::FactsLimit, k.budget());
-    };
+    let kept = paid.retain(budget::facts_bytes(y.words), limits)?;
     rows::put_await(
         t,
         y,
@@ -166,5 +146,5 @@ fn check_await(
         s,
         layout::live_state(y),
     );
-    Points::Passed(place, kept)
+    Ok((place, kept))
 }

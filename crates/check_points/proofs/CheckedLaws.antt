@@ -1,24 +1,23 @@
 -- `check_block` and `check_reached`: what the calls for one block require, and the answer for each way out. Assumes nothing.
 use mathlib.Core.Path.{◌≡◌, refl, sym, ap, subst, ◌∙◌}
-use mathlib.Core.Bool.{Bool, true, false, false≢true}
+use mathlib.Core.Bool.{Bool, true, false}
 use mathlib.Core.List.{List, [], ◌∷◌}
-use mathlib.Core.Logic.{◌⊎◌, inl, inr}
 use Prim.Native.Nat.{ℕ, ◌+◌, ◌-◌, ◌^◌, ◌≤◌, ◌<◌}
 use native.Mathlib.Omega.{arith}
 use lib.ListN.{length, get_or}
-use denote.Enum.Declared.{tag_of}
+use Rattle.std.specs.Prelude.{Ok, Err}
 use Rattle.dataflow.specs.Lists.{pick, range, keep, flag}
 use Rattle.dataflow.specs.BasicBlocks.{uses}
 use Rattle.dataflow.specs.Code.{program, body, await_at}
 use Rattle.dataflow.specs.Results.{reachable, init_entry, live_exit}
 use Rattle.budget.specs.declared.FlowBudget.{FlowBudget}
 use Rattle.budget.specs.declared.Limits.{Limits}
-use Rattle.format.specs.declared.refusal.Refusal.{Refusal}
 use Rattle.memory.specs.Cells.{Mem, cell, word, store_cell}
 use Rattle.memory.specs.Names.{cost_cell, start_cell, end_cell, reachable_cell, state_row, live_state_row}
 use Rattle.memory.specs.Scratch.{scratch, Room}
 use Rattle.memory.specs.Sets.{sets, SetsRoom}
 use Rattle.sizes.specs.declared.Layout.{Layout}
+use Rattle.sizes.specs.declared.Stopped.{Stopped}
 use Rattle.sheet.specs.declared.script.Script.{Script}
 use Rattle.sheet.specs.Decode.{parts_of}
 use Rattle.script.specs.Script.{host_in}
@@ -27,82 +26,14 @@ use Rattle.transfer.specs.declared.direction.Direction.TheVariants.{Initializati
 use Rattle.transfer.specs.Transfer.{running_row, gathered}
 use Rattle.answer.specs.Words.{Means}
 use Rattle.verdict.specs.Points.{Checking, on, and_then, Point, reads_run, awaits_run, block_run, await_points}
-use Rattle.awaits.specs.declared.Points.{Points}
-use Rattle.awaits.specs.declared.Points.TheVariants.{Passed, Refused}
-use Rattle.reads.specs.declared.Reads.{Reads}
-use Rattle.reads.specs.declared.Reads.TheVariants.{Filled, Unfilled, Over}
-use Rattle.reads.specs.contracts.Reads.{the_type}
-use Rattle.reads.specs.Reads.{held_set, Coded, awaits_among, reads_of, Used, ReadsChecked}
-use Rattle.awaits.specs.Awaits.{points_of, Entries, AwaitsChecked, ChargedBack}
+use Rattle.reads.specs.Reads.{Checked, checking_of, held_set, Coded, awaits_among, Used, ReadsChecked}
+use Rattle.reads.proofs.ReadLaws.{same_count, refused-not_passed}
+use Rattle.awaits.specs.Awaits.{Entries, AwaitsChecked, ChargedBack}
 use Rattle.awaits.proofs.ChargeLaws.{none_run}
-use Rattle.check_points.specs.CheckPoints.{code_of, Solved, facts_of, Facing, refused_by, raised_to, Counted, FoundChecked, BlockChecked}
+use Rattle.check_points.specs.CheckPoints.{code_of, Solved, facts_of, Facing, Counted, FoundChecked, BlockChecked}
 use Rattle.check_points.proofs.SolvedLaws.{RunningOnly, running-then, word_kept, held_kept, solved_kept, reads-others, gather-others}
 use Rattle.check_points.proofs.SolvedLaws.{incoming_means, live_out_means}
 use Rattle.check_points.proofs.SpanLaws.{Span, spans, points_length}
-
--- ---- answers
-
--- the entry in an answer that passed
-abbrev place_of : ℕ → Points → ℕ
-place_of d (Passed n b) = n
-place_of d (Refused r b) = d
-
--- and the budget
-abbrev budget_of : FlowBudget → Points → FlowBudget
-budget_of d (Passed n b) = b
-budget_of d (Refused r b) = d
-
--- answers that passed with the same
-pub same_place : {n n' : ℕ} {b b' : FlowBudget} → Passed n b ≡ Passed n' b' → n ≡ n'
-same_place {n} e = ap (place_of n) e
-
--- and the same budget
-pub same-budget : {n n' : ℕ} {b b' : FlowBudget} → Passed n b ≡ Passed n' b' → b ≡ b'
-same-budget {b = b} e = ap (budget_of b) e
-
--- whether an answer passed
-abbrev passed : Points → Bool
-passed (Passed n b) = true
-passed (Refused r b) = false
-
--- one that refuses did not
-pub not-passed : {z : Refusal} {b : FlowBudget} {n : ℕ} {left : FlowBudget} → Refused z b ≡ Passed n left → ⊥
-not-passed e = false≢true (ap passed e)
-
--- the reads are not filled
-abbrev pub NotFilled : Reads → Type 0
-NotFilled r = (n : ℕ) (left : FlowBudget) → r ≡ Filled n left → ⊥
-
--- by the variants that are left
-pub not-filled : (r : Reads) → (tag_of the_type r ≡ 1) ⊎ (tag_of the_type r ≡ 2) → NotFilled r
-not-filled r t n left e = go (subst (λ (q : Reads). (tag_of the_type q ≡ 1) ⊎ (tag_of the_type q ≡ 2)) e t)
-  where
-    go : (tag_of the_type (Filled n left) ≡ 1) ⊎ (tag_of the_type (Filled n left) ≡ 2) → ⊥
-    go (inl q) = omega arith
-    go (inr q) = omega arith
-
--- then the run stops there, whatever was to follow
-unfilled-stops : (r : Reads) → NotFilled r → (f : FlowBudget → Checking) → points_of (refused_by r) ≡ and_then (reads_of r) f
-unfilled-stops (Filled n b) h f = absurd (h n b refl)
-unfilled-stops (Unfilled b) h f = refl
-unfilled-stops (Over b) h f = refl
-
--- an answer of the reads that refuses is none that passed
-refused-not_passed : (r : Reads) {n : ℕ} {left : FlowBudget} → refused_by r ≡ Passed n left → ⊥
-refused-not_passed (Filled k b) e = not-passed e
-refused-not_passed (Unfilled b) e = not-passed e
-refused-not_passed (Over b) e = not-passed e
-
--- the answer of a run does not say how many awaits are reached
-raised_answer : (next : ℕ) (q : Points) → points_of (raised_to next q) ≡ points_of q
-raised_answer next (Passed n b) = refl
-raised_answer next (Refused r b) = refl
-
--- an answer that passed, before it is raised
-raised_place : (next : ℕ) (q : Points) {n : ℕ} {left : FlowBudget} → raised_to next q ≡ Passed n left
-    → (k : ℕ) × (q ≡ Passed k left) × (next ≡ n)
-raised_place next (Passed k b) e = (k, ap (Passed k) (same-budget e), same_place e)
-raised_place next (Refused r b) e = absurd (not-passed e)
 
 -- ---- the parts of a block's run
 
@@ -144,11 +75,11 @@ module _ {s : List ℕ} {parameter : ℕ → Bool} {x : Script} {y : Layout} {c 
   not-reached z = flag-no (reachable (code_of s) c) (sym mark-is ∙ z)
 
   -- and then it passes, and nothing changes
-  pub block_passed : (l : Limits) (b : FlowBudget) → v ≡ 0 → BlockChecked s parameter x y l b c place m m t t (Passed place b)
+  pub block_passed : (l : Limits) (b : FlowBudget) → v ≡ 0 → BlockChecked s parameter x y l b c place m m t t (Ok (place, b))
   unfolding block_run
   block_passed l b z = record {
     answer = ap (λ (r : Bool). pick r (and_then (block_reads s parameter y l c b) (block_awaits s parameter x y l c)) (on b)) (sym (not-reached z));
-    count = λ n left q. sym (same_place q) ∙ (let k : place ≡ place + length none = omega arith in k)
+    count = λ n left q. sym (same_count q) ∙ (let k : place ≡ place + length none = omega arith in k)
         ∙ ap (λ (ps : List Point). place + length ps) (sym facts);
     entries = λ n left q. subst (λ (ps : List Point). Entries y t place ps) (sym facts) tt;
     earlier = λ n left q k lt. refl;
@@ -213,7 +144,7 @@ entered-held {s} {y = y} {c = c} {start = start} {end = end} {m = m} h =
     subst (λ (p : ℕ → Bool). Used (code_of s) p c start end m) (sym (held_kept h.others)) (entered-used h)
 
 -- the reads with the parameters as their row held them before
-pub reads_held : {s : List ℕ} {x : Script} {y : Layout} {l : Limits} {b : FlowBudget} {c place start end : ℕ} {m₀ m m₁ t : Mem} {r : Reads}
+pub reads_held : {s : List ℕ} {x : Script} {y : Layout} {l : Limits} {b : FlowBudget} {c place start end : ℕ} {m₀ m m₁ t : Mem} {r : Checked}
     → Entered s (held_set y m₀) x y c place start end m₀ m t → ReadsChecked (code_of s) (held_set y m) y l b start end m m₁ r
     → ReadsChecked (code_of s) (held_set y m₀) y l b start end m m₁ r
 reads_held {s} {y = y} {l = l} {b = b} {start = start} {end = end} {m = m} {m₁ = m₁} {r = r} h p =
@@ -235,11 +166,11 @@ facts-among {s} parameter {y} {c} e h =
     ∙ points_length (code_of s) parameter (exit_set s parameter y.words c) (body (code_of s) c)
     ∙ ap (λ (is : List ℕ). length (keep (await_at (code_of s)) is)) h.is
 
-module _ {s : List ℕ} {parameter : ℕ → Bool} {x : Script} {y : Layout} {l : Limits} {b : FlowBudget} {c place start end : ℕ} {m₀ m m₁ t : Mem} {r : Reads}
+module _ {s : List ℕ} {parameter : ℕ → Bool} {x : Script} {y : Layout} {l : Limits} {b : FlowBudget} {c place start end : ℕ} {m₀ m m₁ t : Mem} {r : Checked}
     (h : Entered s parameter x y c place start end m₀ m t)
     (p : ReadsChecked (code_of s) parameter y l b start end m m₁ r) where
   -- the reads' answer is that of the run
-  reads-answer : reads_of r ≡ block_reads s parameter y l c b
+  reads-answer : checking_of r ≡ block_reads s parameter y l c b
   reads-answer =
       p.answer (entry_set s parameter y.words c) h.means
       ∙ ap (λ (is : List ℕ). reads_run (code_of s) parameter l (entry_set s parameter y.words c) is b)
@@ -250,7 +181,7 @@ module _ {s : List ℕ} {parameter : ℕ → Bool} {x : Script} {y : Layout} {l 
   reads-solved = solved_kept (reads-others p) h.solved
 
   -- its awaits may be checked
-  pub reads_counted : {found : ℕ} {left : FlowBudget} → r ≡ Filled found left → Counted s parameter x y c start end place found m₁ t
+  pub reads_counted : {found : ℕ} {left : FlowBudget} → r ≡ Ok (found, left) → Counted s parameter x y c start end place found m₁ t
   reads_counted {found} {left} e = record {
     solved = reads-solved;
     inside = h.inside;
@@ -261,21 +192,21 @@ module _ {s : List ℕ} {parameter : ℕ → Bool} {x : Script} {y : Layout} {l 
   }
 
   -- a read is not filled, or a charge crossed the limit
-  pub reads_refused : NotFilled r → {q : Points} → q ≡ refused_by r → BlockChecked s parameter x y l b c place m₀ m₁ t t q
-  reads_refused f {q} e = record {
-    answer = ap points_of e ∙ unfilled-stops r f (block_awaits s parameter x y l c) ∙ ap (λ (z : Checking). and_then z (block_awaits s parameter x y l c)) reads-answer
+  pub reads_refused : {e : Stopped} → r ≡ Err e → BlockChecked s parameter x y l b c place m₀ m₁ t t (Err e)
+  reads_refused e = record {
+    answer = ap (λ (z : Checking). and_then z (block_awaits s parameter x y l c)) (sym (ap checking_of e) ∙ reads-answer)
         ∙ sym (run-reached s parameter x y l b c h.reached);
-    count = λ n left z. absurd (refused-not_passed r (sym e ∙ z));
-    entries = λ n left z. absurd (refused-not_passed r (sym e ∙ z));
-    earlier = λ n left z. absurd (refused-not_passed r (sym e ∙ z));
+    count = λ n left z. absurd (refused-not_passed z);
+    entries = λ n left z. absurd (refused-not_passed z);
+    earlier = λ n left z. absurd (refused-not_passed z);
     others = (running-then h.others (reads-others p)).others;
   }
 
   -- the reads are filled, and then its awaits are checked
-  pub reads_then : {found : ℕ} {left : FlowBudget} → r ≡ Filled found left → {m' t' : Mem} {q : Points}
+  pub reads_then : {found : ℕ} {left : FlowBudget} → r ≡ Ok (found, left) → {m' t' : Mem} {q : Checked}
       → FoundChecked s parameter x y l left c place found m₁ m' t t' q → BlockChecked s parameter x y l b c place m₀ m' t t' q
   reads_then {found} {left} e {m'} {t'} {q} f = record {
-    answer = f.answer ∙ ap (λ (z : Checking). and_then z (block_awaits s parameter x y l c)) (sym (ap reads_of e) ∙ reads-answer)
+    answer = f.answer ∙ ap (λ (z : Checking). and_then z (block_awaits s parameter x y l c)) (sym (ap checking_of e) ∙ reads-answer)
         ∙ sym (run-reached s parameter x y l b c h.reached);
     count = λ n last z. f.count n last z
         ∙ ap (λ (k : ℕ). place + k) (p.counted found left e ∙ sym (facts-among parameter h.reached h.span));
@@ -285,7 +216,7 @@ module _ {s : List ℕ} {parameter : ℕ → Bool} {x : Script} {y : Layout} {l 
     others = (running-then {m' = m'} (running-then h.others (reads-others p)) (record { others = f.others })).others;
   }
 
-module _ {s : List ℕ} {x : Script} {y : Layout} {l : Limits} {b : FlowBudget} {c place start end : ℕ} {m₀ m m₁ t : Mem} {r : Reads}
+module _ {s : List ℕ} {x : Script} {y : Layout} {l : Limits} {b : FlowBudget} {c place start end : ℕ} {m₀ m m₁ t : Mem} {r : Checked}
     (h : Entered s (held_set y m₀) x y c place start end m₀ m t)
     (p : ReadsChecked (code_of s) (held_set y m₀) y l b start end m m₁ r) where
   -- the row of the parameters is as it was
@@ -293,12 +224,12 @@ module _ {s : List ℕ} {x : Script} {y : Layout} {l : Limits} {b : FlowBudget} 
   held_then = held_kept (running-then h.others (reads-others p))
 
   -- its awaits may be checked, with the parameters as their row now holds them
-  pub counted_held : {found : ℕ} {left : FlowBudget} → r ≡ Filled found left → Counted s (held_set y m₁) x y c start end place found m₁ t
+  pub counted_held : {found : ℕ} {left : FlowBudget} → r ≡ Ok (found, left) → Counted s (held_set y m₁) x y c start end place found m₁ t
   counted_held {found} e =
       subst (λ (q : ℕ → Bool). Counted s q x y c start end place found m₁ t) (sym held_then) (reads_counted h p e)
 
   -- and they are, with those that it held before
-  pub found_held : {found : ℕ} {left : FlowBudget} {m' t' : Mem} {q : Points} → FoundChecked s (held_set y m₁) x y l left c place found m₁ m' t t' q
+  pub found_held : {found : ℕ} {left : FlowBudget} {m' t' : Mem} {q : Checked} → FoundChecked s (held_set y m₁) x y l left c place found m₁ m' t t' q
       → FoundChecked s (held_set y m₀) x y l left c place found m₁ m' t t' q
   found_held {found} {left} {m'} {t'} {q} f =
       subst (λ (z : ℕ → Bool). FoundChecked s z x y l left c place found m₁ m' t t' q) held_then f
@@ -315,7 +246,7 @@ module _ {s : List ℕ} {parameter : ℕ → Bool} {x : Script} {y : Layout} {c 
   counted_among = omega (arith, h.found_are)
 
   -- there are none, and its costs are charged
-  pub none_charged : {l : Limits} {b : FlowBudget} {q : Points} → found ≡ 0 → ChargedBack l b start end place m q
+  pub none_charged : {l : Limits} {b : FlowBudget} {q : Checked} → found ≡ 0 → ChargedBack l b start end place m q
       → FoundChecked s parameter x y l b c place found m m t t q
   none_charged {l} {b} {q} z p = record {
     answer = p.answer ∙ none_run (code_of s) parameter l y.words x.slots (host_in (parts_of s)) (exit_set s parameter y.words c)
@@ -367,37 +298,39 @@ leaving {s} {parameter} {x} {y} {c} w u room fits more fit h {m} g = record {
 
 module _ {s : List ℕ} {parameter : ℕ → Bool} {x : Script} {y : Layout} {l : Limits} {b : FlowBudget} {c start end place found : ℕ} {m₀ m t : Mem}
     (h : Leaving s parameter x y c start end place found m₀ m t) where
-  -- its awaits are checked: the answer is the block's, with how many awaits are reached up to its end
-  pub awaits_raised : {m' t' : Mem} {q r : Points} → AwaitsChecked s x y l b start end (place + found) m m' t t' q → r ≡ raised_to (place + found) q
-      → FoundChecked s parameter x y l b c place found m₀ m' t t' r
-  awaits_raised {m'} {t'} {q} {r} p e = record {
-    answer = ap points_of e ∙ raised_answer (place + found) q ∙ awaits-answer;
-    count = λ n last z. sym (raised_place (place + found) q (sym e ∙ z)).2;
-    entries = λ n last z. let v = raised_place (place + found) q (sym e ∙ z) in
-        subst (λ (is : List ℕ). Entries y t' place (await_points (code_of s) parameter live is)) (sym span.is)
-        (subst (λ (k : ℕ). Entries y t' k (await_points (code_of s) parameter live (range start (end - start))))
-        (begins v.0 last v.1) (p.entries v.0 last v.1 parameter live h.means));
-    earlier = λ n last z k lt. let v = raised_place (place + found) q (sym e ∙ z) in
-        p.other_sets v.0 last v.1 k (omega (arith, lt, begins v.0 last v.1));
-    others = (running-then h.others only).others;
-  }
-    where
-      live : ℕ → Bool
-      live = exit_set s parameter y.words c
+  module _ {m' t' : Mem} {q : Checked} (p : AwaitsChecked s x y l b start end (place + found) m m' t t' q) where
+    awaits-answer : checking_of q ≡ block_awaits s parameter x y l c b
+    awaits-answer =
+        p.answer parameter (exit_set s parameter y.words c) h.means
+        ∙ ap (λ (is : List ℕ). awaits_run (code_of s) parameter l y.words x.slots (host_in (parts_of s)) (exit_set s parameter y.words c) is b)
+        (sym (counted_span h.counted).is)
 
-      span : Span s y c start end
-      span = counted_span h.counted
+    -- the awaits change the running live set alone
+    only : RunningOnly y m m'
+    only = record { others = λ k a d. p.others k d }
 
-      awaits-answer : points_of q ≡ block_awaits s parameter x y l c b
-      awaits-answer =
-          p.answer parameter live h.means
-          ∙ ap (λ (is : List ℕ). awaits_run (code_of s) parameter l y.words x.slots (host_in (parts_of s)) live is b)
-          (sym span.is)
+    -- an await is refused, or a charge crossed the limit
+    pub awaits_refused : {e : Stopped} → q ≡ Err e → FoundChecked s parameter x y l b c place found m₀ m' t t' (Err e)
+    awaits_refused e = record {
+      answer = sym (ap checking_of e) ∙ awaits-answer;
+      count = λ n last z. absurd (refused-not_passed z);
+      entries = λ n last z. absurd (refused-not_passed z);
+      earlier = λ n last z. absurd (refused-not_passed z);
+      others = (running-then h.others only).others;
+    }
 
-      -- the awaits change the running live set alone
-      only : RunningOnly y m m'
-      only = record { others = λ k a d. p.others k d }
-
-      -- where the entries begin
-      begins : (k : ℕ) (last : FlowBudget) → q ≡ Passed k last → k ≡ place
-      begins k last z = omega (arith, p.places k last z, h.counted.found_are)
+    -- its awaits passed: so many more are reached up to its end
+    pub awaits_reached : {k : ℕ} {left : FlowBudget} → q ≡ Ok (k, left) → FoundChecked s parameter x y l b c place found m₀ m' t t' (Ok (place + found, left))
+    awaits_reached {k} {left} e = record {
+      answer = sym (ap checking_of e) ∙ awaits-answer;
+      count = λ n last z. sym (same_count z);
+      entries = λ n last z.
+          subst (λ (is : List ℕ). Entries y t' place (await_points (code_of s) parameter (exit_set s parameter y.words c) is)) (sym (counted_span h.counted).is)
+          (subst (λ (j : ℕ). Entries y t' j (await_points (code_of s) parameter (exit_set s parameter y.words c) (range start (end - start)))) begins (p.entries k left e parameter (exit_set s parameter y.words c) h.means));
+      earlier = λ n last z j lt. p.other_sets k left e j (omega (arith, lt, begins));
+      others = (running-then h.others only).others;
+    }
+      where
+        -- where the entries begin
+        begins : k ≡ place
+        begins = omega (arith, p.places k left e, h.counted.found_are)

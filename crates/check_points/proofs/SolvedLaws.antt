@@ -28,8 +28,7 @@ use Rattle.fixed_points.specs.FixedPoints.{Sets}
 use Rattle.fixed_points.proofs.CodeGraph.{connected}
 use Rattle.fixed_points.proofs.Gathered.{incoming_bits, live_out_bits}
 use Rattle.answer.specs.Words.{Means}
-use Rattle.reads.specs.declared.Reads.{Reads}
-use Rattle.reads.specs.Reads.{held_set, Coded, ReadsChecked}
+use Rattle.reads.specs.Reads.{Checked, held_set, Coded, ReadsChecked}
 use Rattle.reads.proofs.ReadLaws as read
 use Rattle.check_points.specs.CheckPoints.{code_of, Solved}
 
@@ -100,7 +99,7 @@ solved-sets h p = record {
 
 -- `check_reads` changes the running state alone
 pub reads-others : {code : List Instruction} {parameter : ℕ → Bool} {y : Layout} {l : Limits} {b : FlowBudget} {start end : ℕ} {m m' : Mem}
-    {r : Reads} → ReadsChecked code parameter y l b start end m m' r → RunningOnly y m m'
+    {r : Checked} → ReadsChecked code parameter y l b start end m m' r → RunningOnly y m m'
 reads-others p = record { others = λ k a b. p.others k a }
 
 -- ---- gathering

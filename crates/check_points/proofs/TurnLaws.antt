@@ -10,23 +10,22 @@ use Rattle.dataflow.specs.Lists.{range}
 use Rattle.dataflow.proofs.Lists.{range-append}
 use Rattle.budget.specs.declared.FlowBudget.{FlowBudget}
 use Rattle.budget.specs.declared.Limits.{Limits}
-use Rattle.format.specs.declared.refusal.Refusal.{Refusal}
+use Rattle.std.specs.Prelude.{Ok, Err}
 use Rattle.memory.specs.Cells.{Mem, cell}
 use Rattle.memory.specs.Sets.{SetsRow}
 use Rattle.sizes.specs.declared.Layout.{Layout}
+use Rattle.sizes.specs.declared.Stopped.{Stopped}
 use Rattle.sheet.specs.declared.script.Script.{Script}
 use Rattle.sheet.specs.Decode.{parts_of}
 use Rattle.script.specs.Script.{host_in}
 use Rattle.verdict.specs.Points.{Checking, and_then, Point, block_run, blocks_run, points_run, block_points, points}
-use Rattle.awaits.specs.declared.Points.{Points}
-use Rattle.awaits.specs.declared.Points.TheVariants.{Passed, Refused}
-use Rattle.awaits.specs.Awaits.{points_of, Entries}
+use Rattle.awaits.specs.Awaits.{Entries}
 use Rattle.awaits.proofs.BackwardLaws.{entries-kept}
-use Rattle.reads.specs.Reads.{held_set}
+use Rattle.reads.specs.Reads.{Checked, checking_of, held_set}
+use Rattle.reads.proofs.ReadLaws.{same_count, refused-not_passed}
 use Rattle.check_points.specs.CheckPoints.{code_of, Solved, facts_of, Facing, BlockChecked, PointsChecked}
 use Rattle.check_points.proofs.SolvedLaws.{RunningOnly, running-then, held_kept, solved_kept, solved-sets}
 use Rattle.check_points.proofs.SpanLaws.{blocks_append, points_few}
-use Rattle.check_points.proofs.CheckedLaws.{same_place, not-passed}
 
 -- ---- entries
 
@@ -107,12 +106,12 @@ module _ {s : List ℕ} {parameter : ℕ → Bool} {x : Script} {y : Layout} {l 
   points-are = ap (points_before s parameter y.words) h.solved.flows.blocks
 
   -- all blocks are checked
-  pub turned_all : y.blocks ≤ block → PointsChecked s parameter x y l b m m' t t' (Passed place left)
+  pub turned_all : y.blocks ≤ block → PointsChecked s parameter x y l b m m' t t' (Ok (place, left))
   unfolding blocks_run
   turned_all le = record {
     answer = ap (λ (n : ℕ). run_over s parameter x y l (range block n) left)
         (let e : 0 ≡ y.blocks - block = omega (arith, le) in e) ∙ h.run;
-    count = λ n last e. sym (same_place e) ∙ h.count ∙ ap length all;
+    count = λ n last e. sym (same_count e) ∙ h.count ∙ ap length all;
     entries = λ n last e. subst (λ (ps : List Point). Entries y t' 0 ps) all h.entries;
     rows = λ n last e. h.rows;
     others = h.others.others;
@@ -152,31 +151,30 @@ module _ {s : List ℕ} {parameter : ℕ → Bool} {x : Script} {y : Layout} {l 
         (let e : suc (y.blocks - (block + 1)) ≡ y.blocks - block = omega (arith, lt) in e)
         ∙ h.run
 
-    module _ {m'' t'' : Mem} {r : Points} (p : BlockChecked s parameter x y l left block place m' m'' t' t'' r) where
+    module _ {m'' t'' : Mem} {r : Checked} (p : BlockChecked s parameter x y l left block place m' m'' t' t'' r) where
       -- of scratch the block changes the running rows alone
       only : RunningOnly y m' m''
       only = record { others = p.others }
 
       -- a block is refused
-      pub turned_over : {z : Refusal} {last : FlowBudget} → r ≡ Refused z last → PointsChecked s parameter x y l b m m'' t t'' r
-      turned_over {z} {last} e = record {
-        answer = ap points_of e
-            ∙ ap (λ (c : Checking). and_then c (run_over s parameter x y l
-            (range (block + 1) (y.blocks - (block + 1))))) (sym (ap points_of e) ∙ p.answer)
+      pub turned_over : {z : Stopped} → r ≡ Err z → PointsChecked s parameter x y l b m m'' t t'' (Err z)
+      turned_over e = record {
+        answer = ap (λ (c : Checking). and_then c (run_over s parameter x y l
+            (range (block + 1) (y.blocks - (block + 1))))) (sym (ap checking_of e) ∙ p.answer)
             ∙ run-block;
-        count = λ n k q. absurd (not-passed (sym e ∙ q));
-        entries = λ n k q. absurd (not-passed (sym e ∙ q));
-        rows = λ n k q. absurd (not-passed (sym e ∙ q));
+        count = λ n k q. absurd (refused-not_passed q);
+        entries = λ n k q. absurd (refused-not_passed q);
+        rows = λ n k q. absurd (refused-not_passed q);
         others = (running-then h.others only).others;
       }
 
       -- a block passed
-      pub turned_more : {n : ℕ} {last : FlowBudget} → r ≡ Passed n last → Turned s parameter x y l b (block + 1) n last m m'' t t''
+      pub turned_more : {n : ℕ} {last : FlowBudget} → r ≡ Ok (n, last) → Turned s parameter x y l b (block + 1) n last m m'' t t''
       turned_more {n} {last} e = record {
         solved = solved-sets below (solved_kept only h.solved);
         some = omega (arith, lt);
         run = ap (λ (c : Checking). and_then c (run_over s parameter x y l
-            (range (block + 1) (y.blocks - (block + 1))))) (sym (ap points_of e) ∙ p.answer)
+            (range (block + 1) (y.blocks - (block + 1))))) (sym (ap checking_of e) ∙ p.answer)
             ∙ run-block;
         count = p.count n last e ∙ omega (
           arith,
@@ -205,7 +203,7 @@ module _ {s : List ℕ} {x : Script} {y : Layout} {l : Limits} {b : FlowBudget} 
   turned_held lt = subst (λ (p : ℕ → Bool). Facing s p x y block place m' t') (sym (held_kept h.others)) (turned_facing h lt)
 
   -- what it does, with those of the first words
-  pub block_held : {m'' t'' : Mem} {r : Points} → BlockChecked s (held_set y m') x y l left block place m' m'' t' t'' r
+  pub block_held : {m'' t'' : Mem} {r : Checked} → BlockChecked s (held_set y m') x y l left block place m' m'' t' t'' r
       → BlockChecked s (held_set y m) x y l left block place m' m'' t' t'' r
   block_held {m''} {t''} {r} p =
       subst (λ (q : ℕ → Bool). BlockChecked s q x y l left block place m' m'' t' t'' r) (held_kept h.others) p

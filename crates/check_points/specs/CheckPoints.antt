@@ -1,5 +1,5 @@
 -- `check_points` of flow.rs over the words of both buffers: the answer is the run's, and the await facts stand in the sets buffer.
-use Rattle.std.specs.Prelude.{◌≡◌, Bool, List, [], ℕ, suc, ◌+◌, ◌≤◌, ◌<◌, length, get_or}
+use Rattle.std.specs.Prelude.{◌≡◌, Bool, List, [], ℕ, suc, ◌+◌, ◌≤◌, ◌<◌, length, get_or, Ok}
 use Rattle.dataflow.specs.Lists.{pick}
 use Rattle.dataflow.specs.Code.{Instruction, leaders, body}
 use Rattle.dataflow.specs.Results.{reachable, live_exit}
@@ -16,13 +16,8 @@ use Rattle.edges.specs.Flow.{Flows}
 use Rattle.fixed_points.specs.FixedPoints.{Sets}
 use Rattle.dataflow.specs.Checked.{Scripted}
 use Rattle.verdict.specs.Points.{Point, awaits_run, block_run, points_run, await_points, points}
-use Rattle.awaits.specs.declared.Points.{Points}
-use Rattle.awaits.specs.declared.Points.TheVariants.{Passed, Refused}
-use Rattle.reads.specs.declared.Reads.{Reads}
-use Rattle.reads.specs.declared.Reads.TheVariants.{Filled, Unfilled, Over}
-use Rattle.format.specs.declared.refusal.Refusal.TheVariants.{UnfilledSlot, WorkLimit}
-use Rattle.reads.specs.Reads.{Coded, awaits_among}
-use Rattle.awaits.specs.Awaits.{points_of, Entries}
+use Rattle.reads.specs.Reads.{Checked, checking_of, Coded, awaits_among}
+use Rattle.awaits.specs.Awaits.{Entries}
 
 -- the code of a sheet
 abbrev pub code_of : List ℕ → List Instruction
@@ -49,17 +44,6 @@ pub record Facing (s : List ℕ) (parameter : ℕ → Bool) (x : Script) (y : La
   pub inside : c < y.blocks
   pub room : place + length (facts_of s parameter y.words c) ≤ y.awaits
 
--- an answer of the reads that refuses
-abbrev pub refused_by : Reads → Points
-refused_by (Filled n b) = Refused UnfilledSlot b
-refused_by (Unfilled b) = Refused UnfilledSlot b
-refused_by (Over b) = Refused WorkLimit b
-
--- an answer with how many awaits are reached
-abbrev pub raised_to : ℕ → Points → Points
-raised_to next (Passed n b) = Passed next b
-raised_to next (Refused r b) = Refused r b
-
 -- `check_found` may begin: block c is the instructions from start to end, with as many awaits as were found, and their entries are there
 pub record Counted (s : List ℕ) (parameter : ℕ → Bool) (x : Script) (y : Layout) (c start end place found : ℕ) (m t : Mem) : Type 0 where
   pub solved : Solved s parameter x y m t
@@ -70,27 +54,27 @@ pub record Counted (s : List ℕ) (parameter : ℕ → Bool) (x : Script) (y : L
   pub room : place + found ≤ y.awaits
 
 -- what `check_found` does: the awaits of block c from what is live at its exit
-pub record FoundChecked (s : List ℕ) (parameter : ℕ → Bool) (x : Script) (y : Layout) (l : Limits) (b : FlowBudget) (c place found : ℕ) (m m' t t' : Mem) (r : Points) : Type 0 where
-  pub answer : points_of r ≡ awaits_run (code_of s) parameter l y.words x.slots (host_in (parts_of s))
+pub record FoundChecked (s : List ℕ) (parameter : ℕ → Bool) (x : Script) (y : Layout) (l : Limits) (b : FlowBudget) (c place found : ℕ) (m m' t t' : Mem) (r : Checked) : Type 0 where
+  pub answer : checking_of r ≡ awaits_run (code_of s) parameter l y.words x.slots (host_in (parts_of s))
       (live_exit (code_of s) parameter y.words c) (body (code_of s) c) b
-  pub count : (n : ℕ) (left : FlowBudget) → r ≡ Passed n left → n ≡ place + found
-  pub entries : (n : ℕ) (left : FlowBudget) → r ≡ Passed n left
+  pub count : (n : ℕ) (left : FlowBudget) → r ≡ Ok (n, left) → n ≡ place + found
+  pub entries : (n : ℕ) (left : FlowBudget) → r ≡ Ok (n, left)
       → Entries y t' place (await_points (code_of s) parameter (live_exit (code_of s) parameter y.words c) (body (code_of s) c))
-  pub earlier : (n : ℕ) (left : FlowBudget) → r ≡ Passed n left → (k : ℕ) → k < await_entry y.blocks place → cell t' k ≡ cell t k
+  pub earlier : (n : ℕ) (left : FlowBudget) → r ≡ Ok (n, left) → (k : ℕ) → k < await_entry y.blocks place → cell t' k ≡ cell t k
   pub others : (k : ℕ) → (k ≡ state_row y.blocks → ⊥) → (k ≡ live_state_row y.blocks → ⊥) → cell m' k ≡ cell m k
 
 -- what `check_block` does with block c, before which `place` awaits are reached
-pub record BlockChecked (s : List ℕ) (parameter : ℕ → Bool) (x : Script) (y : Layout) (l : Limits) (b : FlowBudget) (c place : ℕ) (m m' t t' : Mem) (r : Points) : Type 0 where
-  pub answer : points_of r ≡ block_run (code_of s) parameter l y.words x.slots (host_in (parts_of s)) c b
-  pub count : (n : ℕ) (left : FlowBudget) → r ≡ Passed n left → n ≡ place + length (facts_of s parameter y.words c)
-  pub entries : (n : ℕ) (left : FlowBudget) → r ≡ Passed n left → Entries y t' place (facts_of s parameter y.words c)
-  pub earlier : (n : ℕ) (left : FlowBudget) → r ≡ Passed n left → (k : ℕ) → k < await_entry y.blocks place → cell t' k ≡ cell t k
+pub record BlockChecked (s : List ℕ) (parameter : ℕ → Bool) (x : Script) (y : Layout) (l : Limits) (b : FlowBudget) (c place : ℕ) (m m' t t' : Mem) (r : Checked) : Type 0 where
+  pub answer : checking_of r ≡ block_run (code_of s) parameter l y.words x.slots (host_in (parts_of s)) c b
+  pub count : (n : ℕ) (left : FlowBudget) → r ≡ Ok (n, left) → n ≡ place + length (facts_of s parameter y.words c)
+  pub entries : (n : ℕ) (left : FlowBudget) → r ≡ Ok (n, left) → Entries y t' place (facts_of s parameter y.words c)
+  pub earlier : (n : ℕ) (left : FlowBudget) → r ≡ Ok (n, left) → (k : ℕ) → k < await_entry y.blocks place → cell t' k ≡ cell t k
   pub others : (k : ℕ) → (k ≡ state_row y.blocks → ⊥) → (k ≡ live_state_row y.blocks → ⊥) → cell m' k ≡ cell m k
 
 -- what `check_points` does
-pub record PointsChecked (s : List ℕ) (parameter : ℕ → Bool) (x : Script) (y : Layout) (l : Limits) (b : FlowBudget) (m m' t t' : Mem) (r : Points) : Type 0 where
-  pub answer : points_of r ≡ points_run (code_of s) parameter l y.words x.slots (host_in (parts_of s)) b
-  pub count : (n : ℕ) (left : FlowBudget) → r ≡ Passed n left → n ≡ length (points (code_of s) parameter y.words)
-  pub entries : (n : ℕ) (left : FlowBudget) → r ≡ Passed n left → Entries y t' 0 (points (code_of s) parameter y.words)
-  pub rows : (n : ℕ) (left : FlowBudget) → r ≡ Passed n left → (k : ℕ) → SetsRow y k → cell t' k ≡ cell t k
+pub record PointsChecked (s : List ℕ) (parameter : ℕ → Bool) (x : Script) (y : Layout) (l : Limits) (b : FlowBudget) (m m' t t' : Mem) (r : Checked) : Type 0 where
+  pub answer : checking_of r ≡ points_run (code_of s) parameter l y.words x.slots (host_in (parts_of s)) b
+  pub count : (n : ℕ) (left : FlowBudget) → r ≡ Ok (n, left) → n ≡ length (points (code_of s) parameter y.words)
+  pub entries : (n : ℕ) (left : FlowBudget) → r ≡ Ok (n, left) → Entries y t' 0 (points (code_of s) parameter y.words)
+  pub rows : (n : ℕ) (left : FlowBudget) → r ≡ Ok (n, left) → (k : ℕ) → SetsRow y k → cell t' k ≡ cell t k
   pub others : (k : ℕ) → (k ≡ state_row y.blocks → ⊥) → (k ≡ live_state_row y.blocks → ⊥) → cell m' k ≡ cell m k

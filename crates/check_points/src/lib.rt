@@ -6,19 +6,16 @@ ghost use Rattle.dataflow.specs.Results.{reachable};
 ghost use Rattle.memory.specs.Scratch.{scratch, Room};
 ghost use Rattle.memory.specs.Sets.{sets, SetsRoom};
 ghost use Rattle.reads.specs.Reads.{held_set};
-ghost use Rattle.check_points.specs.CheckPoints.{code_of, Solved, Facing, refused_by, raised_to, Counted, FoundChecked, BlockChecked, PointsChecked};
+ghost use Rattle.check_points.specs.CheckPoints.{code_of, Solved, Facing, Counted, FoundChecked, BlockChecked, PointsChecked};
 
-use awaits::Points;
 use budget::{FlowBudget, Limits};
-use format::refusal::Refusal;
 use memory::layout;
-use reads::Reads;
 use sheet::script::Script;
-use sizes::Layout;
+use sizes::{Layout, Stopped};
 use transfer::compute;
 use transfer::direction::Direction;
 
-// It passed, with how many awaits are reached; or why it is refused.
+// How many awaits are reached.
 pub fn check_points(
     sheet: &[u8],
     s: &mut [u64],
@@ -27,23 +24,18 @@ pub fn check_points(
     y: Layout,
     limits: Limits,
     budget: FlowBudget,
-) -> Points
+) -> Result<(usize, FlowBudget), Stopped>
     requires { Room y (length s.old) × SetsRoom y (length t.old) × (Solved sheet.now (held_set y (scratch y s.old)) script y (scratch y s.old) (sets y t.old)) }
     ensures { PointsChecked sheet.now (held_set y (scratch y s.old)) script y limits budget (scratch y s.old) (scratch y s.new) (sets y t.old) (sets y t.new) result }
 {
     let mut left = budget;
     let mut place = 0;
-    let mut block = 0;
-    while block < y.blocks {
-        let r = check_block(sheet, s, t, script, y, block, place, limits, left);
-        let Points::Passed(n, b) = r else {
-            return r;
-        };
-        place = n;
-        left = b;
-        block += 1;
+    for block in 0..y.blocks {
+        let (next, paid) = check_block(sheet, s, t, script, y, block, place, limits, left)?;
+        place = next;
+        left = paid;
     }
-    Points::Passed(place, left)
+    Ok((place, left))
 }
 
 // The mark of a block that no path reaches.
@@ -60,12 +52,12 @@ fn check_block(
     place: usize,
     limits: Limits,
     budget: FlowBudget,
-) -> Points
+) -> Result<(usize, FlowBudget), Stopped>
     requires { Room y (length s.old) × SetsRoom y (length t.old) × (Facing sheet.now (held_set y (scratch y s.old)) script y block place (scratch y s.old) (sets y t.old)) }
     ensures { BlockChecked sheet.now (held_set y (scratch y s.old)) script y limits budget block place (scratch y s.old) (scratch y s.new) (sets y t.old) (sets y t.new) result }
 {
     if memory::scratch::get(s, y, layout::REACHABLE, block) == UNREACHABLE {
-        return Points::Passed(place, budget);
+        return Ok((place, budget));
     }
     check_reached(sheet, s, t, script, y, block, place, limits, budget)
 }
@@ -81,17 +73,14 @@ fn check_reached(
     place: usize,
     limits: Limits,
     budget: FlowBudget,
-) -> Points
+) -> Result<(usize, FlowBudget), Stopped>
     requires { Room y (length s.old) × SetsRoom y (length t.old) × (Facing sheet.now (held_set y (scratch y s.old)) script y block place (scratch y s.old) (sets y t.old)) × (reachable (code_of sheet.now) block ≡ true) }
     ensures { BlockChecked sheet.now (held_set y (scratch y s.old)) script y limits budget block place (scratch y s.old) (scratch y s.new) (sets y t.old) (sets y t.new) result }
 {
     compute::gather(s, t, y, Direction::Initialization, block);
     let start = memory::scratch::get(s, y, layout::START, block) as usize;
     let end = memory::scratch::get(s, y, layout::END, block) as usize;
-    let r = reads::block_reads(sheet, s, script, y, block, start, end, limits, budget);
-    let Reads::Filled(found, left) = r else {
-        return refused(r);
-    };
+    let (found, left) = reads::block_reads(sheet, s, script, y, block, start, end, limits, budget)?;
     check_found(
         sheet, s, t, script, y, block, start, end, place, found, limits, left,
     )
@@ -111,7 +100,7 @@ fn check_found(
     found: usize,
     limits: Limits,
     budget: FlowBudget,
-) -> Points
+) -> Result<(usize, FlowBudget), Stopped>
     requires { Room y (length s.old) × SetsRoom y (length t.old) × (Counted sheet.now (held_set y (scratch y s.old)) script y block start end place found (scratch y s.old) (sets y t.old)) }
     ensures { FoundChecked sheet.now (held_set y (scratch y s.old)) script y limits budget block place found (scratch y s.old) (scratch y s.new) (sets y t.old) (sets y t.new) result }
 {
@@ -123,7 +112,7 @@ fn check_found(
     )
 }
 
-// The awaits from what is live at the exit.
+// The awaits from what is live at the exit; so many more are reached up to the end of the block.
 fn check_leaving(
     sheet: &[u8],
     s: &mut [u64],
@@ -137,33 +126,12 @@ fn check_leaving(
     found: usize,
     limits: Limits,
     budget: FlowBudget,
-) -> Points
+) -> Result<(usize, FlowBudget), Stopped>
     requires { Room y (length s.old) × SetsRoom y (length t.old) × (Counted sheet.now (held_set y (scratch y s.old)) script y block start end place found (scratch y s.old) (sets y t.old)) }
     ensures { FoundChecked sheet.now (held_set y (scratch y s.old)) script y limits budget block place found (scratch y s.old) (scratch y s.new) (sets y t.old) (sets y t.new) result }
 {
     compute::gather(s, t, y, Direction::Liveness, block);
     let next = place + found;
-    let p = awaits::check_awaits(sheet, s, t, script, y, start, end, next, limits, budget);
-    raised(p, next)
-}
-
-// Reads that are not filled refuse.
-fn refused(r: Reads) -> Points
-    ensures { result ≡ refused_by r }
-{
-    match r {
-        Reads::Filled(_, b) => Points::Refused(Refusal::UnfilledSlot, b),
-        Reads::Unfilled(b) => Points::Refused(Refusal::UnfilledSlot, b),
-        Reads::Over(b) => Points::Refused(Refusal::WorkLimit, b),
-    }
-}
-
-// Awaits that passed, with how many are reached up to the end of their block.
-fn raised(p: Points, next: usize) -> Points
-    ensures { result ≡ raised_to next p }
-{
-    match p {
-        Points::Passed(_, b) => Points::Passed(next, b),
-        Points::Refused(x, b) => Points::Refused(x, b),
-    }
+    let (_, left) = awaits::check_awaits(sheet, s, t, script, y, start, end, next, limits, budget)?;
+    Ok((next, left))
 }

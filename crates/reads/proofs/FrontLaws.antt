@@ -19,21 +19,20 @@ use Rattle.dataflow.proofs.Blocks.{uses_exposed}
 use Rattle.dataflow.proofs.Lists.{every_to, mem-elem}
 use Rattle.budget.specs.declared.FlowBudget.{FlowBudget}
 use Rattle.budget.specs.declared.Limits.{Limits}
-use Rattle.budget.specs.declared.Charged.{Charged}
-use Rattle.budget.specs.declared.Charged.TheVariants as charge
-use Rattle.budget.specs.Budget.{charged, budget_of}
-use Rattle.format.specs.declared.refusal.Refusal.TheVariants.{UnfilledSlot}
+use Rattle.budget.specs.declared.OverWork.{OverWork}
+use Rattle.std.specs.Prelude.{Ok, Err}
+use Rattle.budget.specs.Budget.{Charged, charged}
+use Rattle.format.specs.declared.refusal.Refusal.TheVariants.{WorkLimit, UnfilledSlot}
 use Rattle.memory.specs.Cells.{Mem, cell}
 use Rattle.memory.specs.Names.{uses_row, state_row}
 use Rattle.sizes.specs.declared.Layout.{Layout}
+use Rattle.sizes.specs.Stages.{stopped}
 use Rattle.operands.specs.Kinds.{is_await}
-use Rattle.verdict.specs.Points.{Checking, stop, on, if_paid, reads_run}
+use Rattle.verdict.specs.Points.{Checking, stop, if_paid, reads_run}
 use Rattle.answer.specs.Words.{Means}
-use Rattle.reads.specs.declared.Reads.{Reads}
-use Rattle.reads.specs.declared.Reads.TheVariants.{Filled, Over}
-use Rattle.reads.specs.Reads.{awaits_among, reads_of, Used, front_run, ReadsCharged, ReadsChecked}
+use Rattle.reads.specs.Reads.{Checked, awaits_among, Used, front_run, ReadsCharged, ReadsChecked}
 use Rattle.reads.specs.Reads.{await_count}
-use Rattle.reads.proofs.ReadLaws.{awaits-more, counted-once}
+use Rattle.reads.proofs.ReadLaws.{refused-not_passed, same_count, awaits-more, counted-once}
 
 -- ---- after the instructions from start to pc
 
@@ -52,39 +51,36 @@ module _ {code : List Instruction} {l : Limits} {budget : FlowBudget} {start end
 
   module _ {left : FlowBudget} {pc awaits : ℕ} (a : Charging code l budget left start end pc awaits) where
     -- all are charged
-    pub charges_made : pc ≡ end → {z : FlowBudget} → z ≡ left → ReadsCharged code l budget start end (Filled awaits z)
+    pub charges_made : pc ≡ end → ReadsCharged code l budget start end (Ok (awaits, left))
     unfolding front_run
-    charges_made q o = record {
+    charges_made q = record {
       answer = let e : end - pc ≡ 0 = omega arith in
-          sym (a.run ∙ ap (λ (n : ℕ). front_run (cost_at code) l (range pc n) left) e ∙ ap on (sym o));
-      counted = λ n x e. let w : n ≡ awaits = cc in w ∙ a.counted ∙ ap (awaits_among code start) q;
+          sym (a.run ∙ ap (λ (n : ℕ). front_run (cost_at code) l (range pc n) left) e);
+      counted = λ n x e. sym (same_count e) ∙ a.counted ∙ ap (awaits_among code start) q;
     }
 
-    module _ (h : pc < end) {cost : ℕ} (c : cost ≡ cost_at code pc) {r : Charged} (d : r ≡ charged l left (cost ∷ [])) where
-      step : front_run (cost_at code) l (range pc (end - pc)) left ≡ if_paid r (front_run (cost_at code) l (range (suc pc) (end - suc pc)))
+    module _ (h : pc < end) {cost : ℕ} (c : cost ≡ cost_at code pc) where
+      step : {r : Charged} → r ≡ charged l left (cost ∷ [])
+          → front_run (cost_at code) l (range pc (end - pc)) left ≡ if_paid r (front_run (cost_at code) l (range (suc pc) (end - suc pc)))
       unfolding front_run
-      step =
+      step d =
           let e : end - pc ≡ suc (end - suc pc) = omega arith in
           ap (λ (n : ℕ). front_run (cost_at code) l (range pc n) left) e
           ∙ ap (λ (z : Charged). if_paid z (front_run (cost_at code) l (range (suc pc) (end - suc pc))))
           (ap (λ (n : ℕ). charged l left (n ∷ [])) (sym c) ∙ sym d)
 
       -- a charge crosses the limit
-      pub charges_over : {x : FlowBudget} {q : Reads} → r ≡ charge.Over x → q ≡ Over (budget_of r) → ReadsCharged code l budget start end q
-      charges_over {x} {q} e o =
-          let over : q ≡ Over x = o ∙ ap (λ (z : Charged). Over (budget_of z)) e in
-          record {
-            answer = ap reads_of over
-                ∙ sym (a.run ∙ step ∙ ap (λ (z : Charged). if_paid z (front_run (cost_at code) l (range (suc pc) (end - suc pc)))) e);
-            counted = λ n z p. let w : ◌≡◌ {A = ℕ} 0 1 = cc in absurd (omega arith);
-          }
+      pub charges_over : {x : OverWork} → Err x ≡ charged l left (cost ∷ []) → ReadsCharged code l budget start end (stopped WorkLimit x.budget)
+      charges_over d = record {
+        answer = sym (a.run ∙ step d);
+        counted = λ n z p. absurd (refused-not_passed p);
+      }
 
       -- one instruction more
-      pub charging_more : {b : FlowBudget} → r ≡ charge.Ok b → (kind : ℕ) {k : ℕ} → await_at code pc ≡ is_await kind → k ≡ await_count kind → start ≤ pc
+      pub charging_more : {b : FlowBudget} → Ok b ≡ charged l left (cost ∷ []) → (kind : ℕ) {k : ℕ} → await_at code pc ≡ is_await kind → k ≡ await_count kind → start ≤ pc
           → Charging code l budget b start end (pc + 1) (awaits + k)
-      charging_more {b} e kind {k} aw ek sp = let next : suc pc ≡ pc + 1 = omega arith in record {
-        run = a.run ∙ step ∙ ap (λ (z : Charged). if_paid z (front_run (cost_at code) l (range (suc pc) (end - suc pc)))) e
-            ∙ ap (λ (z : ℕ). front_run (cost_at code) l (range z (end - z)) b) next;
+      charging_more {b} d kind {k} aw ek sp = let next : suc pc ≡ pc + 1 = omega arith in record {
+        run = a.run ∙ step d ∙ ap (λ (z : ℕ). front_run (cost_at code) l (range z (end - z)) b) next;
         counted = ap₂ (λ (p q : ℕ). p + q) a.counted ek ∙ sym (awaits-more code start pc kind sp aw);
         few = omega (arith, a.few, counted-once kind k ek);
       }
@@ -93,8 +89,8 @@ module _ {code : List Instruction} {l : Limits} {budget : FlowBudget} {start end
 
 -- what follows a charge
 paid-same : (c : Charged) (f g : FlowBudget → Checking) → ((b : FlowBudget) → f b ≡ g b) → if_paid c f ≡ if_paid c g
-paid-same (charge.Ok b) f g h = h b
-paid-same (charge.Over b) f g h = refl
+paid-same (Ok b) f g h = h b
+paid-same (Err e) f g h = refl
 
 module _ (code : List Instruction) (parameter : ℕ → Bool) (l : Limits) where
   -- if f holds what is read in the list before it is written there, the run is its charges
@@ -133,7 +129,7 @@ module _ (code : List Instruction) (parameter : ℕ → Bool) (l : Limits) where
       later false false t p q = q refl
 
 -- what a block uses is in the running state, so all its reads are filled
-pub charged-filled : (code : List Instruction) (parameter : ℕ → Bool) (y : Layout) (l : Limits) (b : FlowBudget) (c start end : ℕ) (m : Mem) (r : Reads)
+pub charged-filled : (code : List Instruction) (parameter : ℕ → Bool) (y : Layout) (l : Limits) (b : FlowBudget) (c start end : ℕ) (m : Mem) (r : Checked)
     → start ≤ end → ((i : ℕ) → i < end → (instruction_at code i).emptied ≡ []) → Used code parameter c start end m
     → length (cell m (state_row y.blocks)) ≡ y.words → within (cell m (uses_row c)) (cell m (state_row y.blocks)) ≡ true
     → ReadsCharged code l b start end r → ReadsChecked code parameter y l b start end m m r

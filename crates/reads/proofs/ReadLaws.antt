@@ -15,13 +15,15 @@ use Rattle.dataflow.proofs.Bools.{not_yes, not-no}
 use Rattle.dataflow.proofs.Lists.{keep-both}
 use Rattle.budget.specs.declared.FlowBudget.{FlowBudget}
 use Rattle.budget.specs.declared.Limits.{Limits}
-use Rattle.budget.specs.declared.Charged.{Charged}
-use Rattle.budget.specs.declared.Charged.TheVariants as charge
-use Rattle.budget.specs.Budget.{charged, budget_of}
-use Rattle.format.specs.declared.refusal.Refusal.TheVariants.{UnfilledSlot}
+use Rattle.budget.specs.declared.OverWork.{OverWork}
+use Rattle.std.specs.Prelude.{Ok, Err}
+use Rattle.budget.specs.Budget.{Charged, charged}
+use Rattle.format.specs.declared.refusal.Refusal.TheVariants.{WorkLimit, UnfilledSlot}
 use Rattle.memory.specs.Cells.{Mem, cell, word, store_cell}
 use Rattle.memory.specs.Names.{cost_cell, offset_cell, state_row, hosts_row}
 use Rattle.sizes.specs.declared.Layout.{Layout}
+use Rattle.sizes.specs.declared.Stopped.{Stopped}
+use Rattle.sizes.specs.Stages.{stopped}
 use Rattle.memory.proofs.CellLaws.{same_word, cell-store_same, cell-store_other}
 use Rattle.operands.specs.Kinds.{kind_number, is_await}
 use Rattle.operands.specs.Patterns.{fits}
@@ -36,12 +38,20 @@ use Rattle.script.specs.Script.{flow_code}
 use Rattle.blocks.proofs.ReadLaws.{Read, stands_at, fits_at, await_is_at, read_at}
 use Rattle.blocks.proofs.TransferLaws.{range-more}
 use Rattle.blocks.proofs.MemberLaws.{member-all}
-use Rattle.reads.specs.declared.Reads.{Reads}
-use Rattle.reads.specs.declared.Reads.TheVariants.{Filled, Unfilled, Over}
-use Rattle.verdict.specs.Points.{Checking, stop, on, if_paid, reads_run}
+use Rattle.verdict.specs.Points.{Checking, stop, if_paid, reads_run}
 use Rattle.answer.specs.Words.{Means}
-use Rattle.reads.specs.Reads.{Coded, awaits_among, reads_of, ReadsChecked}
+use Rattle.reads.specs.Reads.{Checked, Coded, awaits_among, ReadsChecked}
 use Rattle.reads.specs.Reads.{await_count}
+
+-- ---- answers
+
+-- answers that passed with the same number
+pub same_count : {n k : ℕ} {b d : FlowBudget} → ◌≡◌ {A = Checked} (Ok (n, b)) (Ok (k, d)) → n ≡ k
+same_count {n} {k} {b} {d} e = let same : ◌≡◌ {A = ℕ × FlowBudget} (n, b) (k, d) = cc in ap (λ (r : ℕ × FlowBudget). r.0) same
+
+-- a refusal is none that passed
+pub refused-not_passed : {e : Stopped} {n : ℕ} {b : FlowBudget} → ◌≡◌ {A = Checked} (Err e) (Ok (n, b)) → ⊥
+refused-not_passed e = let o : ◌≡◌ {A = ℕ} 0 1 = cc in absurd (omega arith)
 
 -- ---- awaits counted
 
@@ -152,61 +162,57 @@ module _ {code : List Instruction} {parameter : ℕ → Bool} {y : Layout} {l : 
 
   module _ {left : FlowBudget} {pc awaits : ℕ} {m' : Mem} (a : Reading code parameter y l budget left start end pc awaits m m') where
     -- all reads are filled
-    pub reads_filled : pc ≡ end → {z : FlowBudget} → z ≡ left → ReadsChecked code parameter y l budget start end m m' (Filled awaits z)
+    pub reads_filled : pc ≡ end → ReadsChecked code parameter y l budget start end m m' (Ok (awaits, left))
     unfolding reads_run
-    reads_filled q o = record {
+    reads_filled q = record {
       answer = λ f h. let r = a.run f h in
           let e : end - pc ≡ 0 = omega arith in
-          sym (r.2 ∙ ap (λ (n : ℕ). reads_run code parameter l r.0 (range pc n) left) e ∙ ap on (sym o));
-      counted = λ n x e. let w : n ≡ awaits = cc in w ∙ a.counted ∙ ap (awaits_among code start) q;
+          sym (r.2 ∙ ap (λ (n : ℕ). reads_run code parameter l r.0 (range pc n) left) e);
+      counted = λ n x e. sym (same_count e) ∙ a.counted ∙ ap (awaits_among code start) q;
       others = a.others;
     }
 
-    module _ (h : pc < end) {cost : ℕ} (c : cost ≡ cost_at code pc) {r : Charged} (d : r ≡ charged l left (cost ∷ [])) where
+    module _ (h : pc < end) {cost : ℕ} (c : cost ≡ cost_at code pc) where
       -- what follows the charge, if the set is g before pc
       abbrev after : (ℕ → Bool) → FlowBudget → Checking
       after g b = pick (every g (instruction_at code pc).inputs)
           (reads_run code parameter l (λ s. init_transfer (program code parameter) pc s (g s)) (range (suc pc) (end - suc pc)) b) (stop UnfilledSlot b)
 
-      step : (g : ℕ → Bool) → reads_run code parameter l g (range pc (end - pc)) left ≡ if_paid r (after g)
+      step : (g : ℕ → Bool) {r : Charged} → r ≡ charged l left (cost ∷ []) → reads_run code parameter l g (range pc (end - pc)) left ≡ if_paid r (after g)
       unfolding reads_run
-      step g =
+      step g d =
           let e : end - pc ≡ suc (end - suc pc) = omega arith in
           ap (λ (n : ℕ). reads_run code parameter l g (range pc n) left) e
           ∙ ap (λ (z : Charged). if_paid z (after g)) (ap (λ (n : ℕ). charged l left (n ∷ [])) (sym c) ∙ sym d)
 
       -- a charge crosses the limit
-      pub reads_over : {x : FlowBudget} {q : Reads} → r ≡ charge.Over x → q ≡ Over (budget_of r)
-          → ReadsChecked code parameter y l budget start end m m' q
-      reads_over {x} {q} e o =
-          let over : q ≡ Over x = o ∙ ap (λ (z : Charged). Over (budget_of z)) e in
-          record {
-            answer = λ f g. let u = a.run f g in
-                ap reads_of over ∙ sym (u.2 ∙ step u.0 ∙ ap (λ (z : Charged). if_paid z (after u.0)) e);
-            counted = λ n z p. let w : ◌≡◌ {A = ℕ} 0 1 = cc in absurd (omega arith);
-            others = a.others;
-          }
+      pub reads_over : {x : OverWork} → Err x ≡ charged l left (cost ∷ []) → ReadsChecked code parameter y l budget start end m m' (stopped WorkLimit x.budget)
+      reads_over d = record {
+        answer = λ f g. let u = a.run f g in sym (u.2 ∙ step u.0 d);
+        counted = λ n z p. absurd (refused-not_passed p);
+        others = a.others;
+      }
 
-      module _ {b : FlowBudget} (e : r ≡ charge.Ok b) {ins : List ℕ} (p : (instruction_at code pc).inputs ≡ ins)
+      module _ {b : FlowBudget} (d : Ok b ≡ charged l left (cost ∷ [])) {ins : List ℕ} (p : (instruction_at code pc).inputs ≡ ins)
           (ib : AllBelow (64 * y.words) ins) where
         -- after a charge that is met, by whether all inputs are there
         met : (g : ℕ → Bool) (t : Bool) → every g ins ≡ t → reads_run code parameter l g (range pc (end - pc)) left
             ≡ pick t (reads_run code parameter l (λ s. init_transfer (program code parameter) pc s (g s)) (range (suc pc) (end - suc pc)) b)
             (stop UnfilledSlot b)
         met g t q =
-            step g ∙ ap (λ (z : Charged). if_paid z (after g)) e
+            step g d
             ∙ ap (λ (v : Bool). pick v
             (reads_run code parameter l (λ s. init_transfer (program code parameter) pc s (g s)) (range (suc pc) (end - suc pc)) b)
             (stop UnfilledSlot b)) (ap (every g) p ∙ q)
 
         -- an input is missing
         pub reads_unfilled : {row : ℕ} → row ≡ state_row y.blocks → {t : Bool} → t ≡ not (every (member (cell m' row)) ins) → t ≡ true
-            → ReadsChecked code parameter y l budget start end m m' (Unfilled b)
+            → ReadsChecked code parameter y l budget start end m m' (stopped UnfilledSlot b)
         reads_unfilled {row} i {t} q v = record {
           answer = λ f g. let u = a.run f g in
               sym (u.2 ∙ met u.0 false (sym (means-every y.words _ u.0 u.1 ins ib)
               ∙ ap (λ (n : ℕ). every (member (cell m' n)) ins) (sym i) ∙ not_yes (every (member (cell m' row)) ins) (sym q ∙ v)));
-          counted = λ n z' w. let o : ◌≡◌ {A = ℕ} 0 1 = cc in absurd (omega arith);
+          counted = λ n z' w. absurd (refused-not_passed w);
           others = a.others;
         }
 

@@ -12,23 +12,16 @@ ghost use Rattle.sheet.specs.Decode.{parts_of};
 ghost use Rattle.script.specs.Script.{flow_code};
 ghost use Rattle.reads.specs.Reads.{held_set, Coded, Used, ReadsCharged, ReadsChecked};
 
-use budget::{Charged, FlowBudget, Limits};
+use budget::{FlowBudget, Limits};
+use format::refusal::Refusal;
 use instructions::placed;
 use memory::layout;
 use operands::iter::Inputs;
 use sheet::script::Script;
-use sizes::Layout;
+use sizes::{Layout, Stopped};
 
-// All reads are filled, with how many awaits there are; or one is not; or a charge crossed the limit.
-#[derive(Clone, Copy)]
-pub enum Reads {
-    Filled(usize, FlowBudget),
-    Unfilled(FlowBudget),
-    Over(FlowBudget),
-}
-
-// The reads of a block, the instructions from start to end. Where what it uses is initialized at its entry, every read is filled, and only the charges
-// are left; else the first unfilled read is looked for.
+// The reads of a block, the instructions from start to end; it answers with how many awaits are among them.
+// Where what the block uses is initialized at its entry, every read is filled, and only the charges are left; else the first unfilled read is looked for.
 pub fn block_reads(
     sheet: &[u8],
     s: &mut [u64],
@@ -39,7 +32,7 @@ pub fn block_reads(
     end: usize,
     limits: Limits,
     budget: FlowBudget,
-) -> Reads
+) -> Result<(usize, FlowBudget), Stopped>
     requires { Room y (length s.old) × (Coded sheet.now script y (scratch y s.old)) × (block < y.blocks) × (Used (flow_code (parts_of sheet.now)) (held_set y (scratch y s.old)) block start end (scratch y s.old)) × (start ≤ end) × (end ≤ y.instructions) }
     ensures { ReadsChecked (flow_code (parts_of sheet.now)) (held_set y (scratch y s.old)) y limits budget start end (scratch y s.old) (scratch y s.new) result }
 {
@@ -59,23 +52,18 @@ fn charge_reads(
     end: usize,
     limits: Limits,
     budget: FlowBudget,
-) -> Reads
+) -> Result<(usize, FlowBudget), Stopped>
     requires { Room y (length s.now) × (Coded sheet.now script y (scratch y s.now)) × (start ≤ end) × (end ≤ y.instructions) }
     ensures { ReadsCharged (flow_code (parts_of sheet.now)) limits budget start end result }
 {
     let mut left = budget;
     let mut awaits = 0;
     for pc in start..end {
-        let cost = memory::scratch::get(s, y, layout::COST, pc);
-        let paid = left.charge(cost, limits);
-        let Charged::Ok(b) = paid else {
-            return Reads::Over(paid.budget());
-        };
-        left = b;
+        left = left.charge(memory::scratch::get(s, y, layout::COST, pc), limits)?;
         let at = memory::scratch::get(s, y, layout::OFFSET, pc) as usize;
         awaits += placed::instruction_at(sheet, at).kind.is_await() as usize;
     }
-    Reads::Filled(awaits, left)
+    Ok((awaits, left))
 }
 
 // The instructions from start to end in order, up to the first unfilled read.
@@ -88,7 +76,7 @@ fn check_reads(
     end: usize,
     limits: Limits,
     budget: FlowBudget,
-) -> Reads
+) -> Result<(usize, FlowBudget), Stopped>
     requires { Room y (length s.old) × (Coded sheet.now script y (scratch y s.old)) × (start ≤ end) × (end ≤ y.instructions) }
     ensures { ReadsChecked (flow_code (parts_of sheet.now)) (held_set y (scratch y s.old)) y limits budget start end (scratch y s.old) (scratch y s.new) result }
 {
@@ -97,20 +85,19 @@ fn check_reads(
     let mut awaits = 0;
     for pc in start..end {
         let cost = memory::scratch::get(s, y, layout::COST, pc);
-        let c = left.charge(cost, limits);
-        let Charged::Ok(b) = c else {
-            return Reads::Over(c.budget());
-        };
-        left = b;
+        left = left.charge(cost, limits)?;
         let at = memory::scratch::get(s, y, layout::OFFSET, pc) as usize;
         let instruction = placed::instruction_at(sheet, at).instruction();
         if misses_input(s, y, state, instruction.inputs()) {
-            return Reads::Unfilled(left);
+            return Err(Stopped {
+                why: Refusal::UnfilledSlot,
+                budget: left,
+            });
         }
         blocks::transfer::insert_output(s, y, state, instruction);
         awaits += instruction.kind.is_await() as usize;
     }
-    Reads::Filled(awaits, left)
+    Ok((awaits, left))
 }
 
 // Whether one of the inputs is missing in a row.

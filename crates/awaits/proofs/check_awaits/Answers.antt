@@ -1,7 +1,6 @@
 -- `awaits::check_awaits` meets its contract: what the run has come to at pc. Assumes nothing.
-use Rattle.std.proofs.Common.{refl, sym, subst, ◌∙◌, ◌-◌, arith}
-use Rattle.memory.specs.Scratch.{Room}
-use Rattle.memory.specs.Sets.{SetsRoom}
+use Rattle.std.proofs.Common.{refl, ◌-◌, arith, rules}
+use Rattle.std.proofs.lemmas.Result.{err_from_is_err_and}
 use Rattle.memory.proofs.SetsLaws.{sets-length}
 use Rattle.script.specs.Script.{flow_code}
 use Rattle.sheet.specs.Decode.{parts_of}
@@ -10,15 +9,15 @@ use Rattle.awaits.proofs.check_awaits.Goals as goal
 
 pub loop-pc-init : goal.loop-pc-init
 loop-pc-init c =
-    record { low = c.requires.3; scratch_long = refl; sets_long = refl; awaiting = awaiting_none }
+    record { low = c.requires.3; awaiting = awaiting_none }
 
-pub check_instruction-r-requires : goal.check_instruction-r-requires
-check_instruction-r-requires c =
+pub check_instruction-requires : goal.check_instruction-requires
+check_instruction-requires c =
     let a = c.args in
     let l = c.loop-pc in
     let i = c.loop-pc.invariant in (
-      subst (Room a.y) (sym i.scratch_long) c.requires.0,
-      subst (SetsRoom a.y) (sym i.sets_long) c.requires.1,
+      search rules,
+      search rules,
       awaiting_coded c.requires.2 i.awaiting,
       omega arith,
       room-before (flow_code (parts_of a.sheet.now)) a.start a.end l.pc (l.pc - 1) a.place l.next (omega arith) (omega arith) (omega arith) c.requires.5
@@ -26,16 +25,15 @@ check_instruction-r-requires c =
       omega (arith, i.awaiting.places, c.requires.6),
     )
 
-pub returns-in_default : goal.returns-in_default
-returns-in_default c =
-    awaits_stopped c.loop-pc.invariant.awaiting (omega arith) (omega arith) c.check_instruction-r.ensures (omega arith) c.in_default.is
+pub returns-in_err-n : goal.returns-in_err-n
+returns-in_err-n c =
+    let p = err_from_is_err_and c.from_residual.result c.from_residual.ensures.1 in
+    rw (p.1, p.2) (awaits_stopped c.loop-pc.invariant.awaiting (omega arith) (omega arith) c.in_err-n.ensures (omega arith) refl)
 
 pub loop-pc-preserved : goal.loop-pc-preserved
 loop-pc-preserved c =
     let i = c.loop-pc.invariant in record {
       low = omega arith;
-      scratch_long = c.check_instruction-r.auto.s ∙ i.scratch_long;
-      sets_long = c.check_instruction-r.auto.t ∙ i.sets_long;
-      awaiting = awaiting_more i.awaiting (omega arith) (omega arith) c.check_instruction-r.ensures c.in-Passed.is
+      awaiting = awaiting_more i.awaiting (omega arith) (omega arith) c.in_ok-n.ensures refl
           (omega (arith, sets-length c.args.y c.loop-pc.t, i.awaiting.places, c.requires.6));
     }

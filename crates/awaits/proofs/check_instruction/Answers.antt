@@ -1,5 +1,6 @@
 -- `awaits::check_instruction` meets its contract: a law for each way out. Assumes nothing.
-use Rattle.std.proofs.Common.{sym, subst, ap, ◌∙◌, ℕ, ◌*◌, ◌^◌, ◌<◌, arith, rules, length, get_or}
+use Rattle.std.proofs.Common.{sym, subst, ◌∙◌, ℕ, ◌*◌, ◌^◌, ◌<◌, arith, rules, length, get_or}
+use Rattle.std.proofs.lemmas.Result.{err_from_is_err_and}
 use Rattle.bitset.specs.Below.{AllBelow}
 use Rattle.memory.specs.Names.{offset_cell, cost_cell, live_state_row, hosts_row}
 use Rattle.memory.specs.Scratch.{scratch, Room, Row}
@@ -7,20 +8,18 @@ use Rattle.memory.specs.Sets.{sets}
 use Rattle.memory.proofs.ScratchLaws.{scratch-length, row_length, row_words, place_instructions}
 use Rattle.reads.proofs.ReadLaws.{noted_cost, noted_stands, noted_fits, noted_read}
 use Rattle.awaits.proofs.InstructionLaws.{instruction_over, instruction_met}
-use Rattle.format.specs.declared.refusal.Refusal.TheVariants.{WorkLimit}
-use Rattle.awaits.specs.declared.Points.TheVariants.{Refused}
 use Rattle.awaits.proofs.check_instruction.Goals as goal
 
 pub get-cost-requires : goal.get-cost-requires
 get-cost-requires c =
     (c.requires.0, place_instructions c.args.y cost_cell c.args.pc (omega arith) c.requires.3)
 
-pub returns-in_default : goal.returns-in_default
-returns-in_default c =
+pub returns-in_err-left : goal.returns-in_err-left
+returns-in_err-left c =
     let a = c.args in
     let paid = noted_cost c.requires.2 a.pc c.requires.3 c.get-cost.ensures in
-    instruction_over a.sheet.now a.script a.y a.limits a.budget a.pc a.place (scratch a.y a.s.now) (sets a.y a.t.now) c.requires.2 _ paid _ c.charge-c.ensures
-    _ _ c.in_default.is (ap (Refused WorkLimit) c.budget.ensures)
+    let p = err_from_is_err_and c.from_residual.result c.from_residual.ensures.1 in
+    rw (p.1, p.2) (instruction_over a.sheet.now a.script a.y a.limits a.budget a.pc a.place (scratch a.y a.s.now) (sets a.y a.t.now) c.requires.2 _ paid c.in_err-left.ensures)
 
 pub get-at-requires : goal.get-at-requires
 get-at-requires c =
@@ -75,8 +74,7 @@ returns c =
     let row : Row a.y live.result = record { low = omega (arith, live.ensures); high = omega (arith, live.ensures) } in
     let hosts : Row a.y (hosts_row a.y.blocks) = record { low = omega arith; high = omega arith } in
     let lives : Row a.y (live_state_row a.y.blocks) = record { low = omega arith; high = omega arith } in
-    instruction_met a.sheet.now a.script a.y a.limits a.budget a.pc a.place (scratch a.y a.s.now) (sets a.y a.t.now) pre.2 _ paid _ c.charge-c.ensures _
-    c.in-Ok.is _ live.ensures (omega (arith, scratch-length a.y a.s.now, live.ensures)) (row_length a.s.now pre.0 row) _ _ r.outputs_are
+    instruction_met a.sheet.now a.script a.y a.limits a.budget a.pc a.place (scratch a.y a.s.now) (sets a.y a.t.now) pre.2 _ paid c.in_ok-left.ensures _ live.ensures (omega (arith, scratch-length a.y a.s.now, live.ensures)) (row_length a.s.now pre.0 row) _ _ r.outputs_are
     (r.inputs_are ∙ sym c.inputs.ensures) r.output_below (subst (AllBelow (64 * a.y.words)) (sym c.inputs.ensures) r.inputs_below) (scratch a.y s₁)
     (scratch a.y s₂) c.remove_output.ensures (omega (arith, scratch-length a.y s₁, live.ensures)) c.insert_inputs.ensures (row_words s₂ room hosts fits)
     (row_words s₂ room lives fits) _ r.await_is (λ q. omega (arith, pre.4 (r.await_is ∙ q), pre.5)) _ _ c.check_point.ensures
