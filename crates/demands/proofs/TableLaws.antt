@@ -9,18 +9,15 @@ use native.Mathlib.Decide.{dec_lt}
 use native.Mathlib.Omega.{arith}
 use borrow.Author.Tests.{le-ltb, lt-ltb}
 use lib.ListN.{length}
+use Rattle.std.specs.Prelude.{Ok, Err}
 use Rattle.dataflow.specs.Lists.{pick}
 use Rattle.dataflow.specs.Charges.{fixed_points_charges, counting_charges, building_charges}
 use Rattle.budget.specs.declared.FlowBudget.{FlowBudget}
 use Rattle.budget.specs.declared.Limits.{Limits}
-use Rattle.budget.specs.declared.Charged.{Charged}
-use Rattle.budget.specs.declared.Charged.TheVariants.{Ok, Over}
-use Rattle.budget.specs.Budget.{charged, state_bytes}
+use Rattle.budget.specs.Budget.{Charged, charged, state_bytes}
 use Rattle.format.specs.declared.refusal.Refusal.{Refusal}
 use Rattle.format.specs.declared.refusal.Refusal.TheVariants.{NoRoom, StateLimit, WorkLimit, UnfilledSlot, HostOverAwait, FactsLimit}
-use Rattle.sizes.specs.declared.Staged.{Staged}
-use Rattle.sizes.specs.declared.Staged.TheVariants as staging
-use Rattle.sizes.specs.Stages.{rooms_of, if_met, graph_of, if_ok, stage}
+use Rattle.sizes.specs.Stages.{Staged, rooms_of, if_met, graph_of, if_ok, stage}
 use Rattle.sizes.proofs.StageLaws.{state_due, room_due, room_there}
 use Rattle.sheet.specs.declared.script.Script.{Script}
 use Rattle.sheet.specs.Decode.{refusal, id_in, id_of, id_after}
@@ -88,14 +85,14 @@ module _ (s : List ℕ) (parameter : ℕ → Bool) (l : Limits) (n : Lengths) (b
   after-counts : (left : FlowBudget) → Counts s parameter l n b left → outcome_of s parameter l n b ≡ after_graph s parameter x l (if_ok (rooms left) (stage l later))
   after-counts left g = after-begins g.begins ∙ ap (λ (c : Charged). after_graph s parameter x l (if_ok (if_met c rooms) (stage l later))) g.paid
 
-  fits-ok : (left : FlowBudget) → Fits s parameter l n b left → rooms left ≡ staging.Ok (layout s parameter l n b) left
+  fits-ok : (left : FlowBudget) → Fits s parameter l n b left → rooms left ≡ Ok (layout s parameter l n b, left)
   fits-ok left g = sym (room_there l (layout s parameter l n b) n.scratch (record { sets = n.sets; records = n.records }) left g.state g.room)
 
   after-fits : (left : FlowBudget) → Fits s parameter l n b left → outcome_of s parameter l n b ≡ after_graph s parameter x l (stage l later (layout s parameter l n b) left)
   after-fits left g = after-counts left g.counts ∙ ap (λ (c : Staged). after_graph s parameter x l (if_ok c (stage l later))) (fits-ok left g)
 
   after-builds : (left : FlowBudget) → Builds s parameter l n b left → outcome_of s parameter l n b ≡ after_rounds s parameter x l (layout s parameter l n b) (charged l left rounds)
-  after-builds left g = after-fits g.before g.fits ∙ ap (λ (c : Charged). after_graph s parameter x l (if_met c (staging.Ok (layout s parameter l n b)))) g.paid
+  after-builds left g = after-fits g.before g.fits ∙ ap (λ (c : Charged). after_graph s parameter x l (if_met c (λ z. Ok (layout s parameter l n b, z)))) g.paid
 
   after-solves : (left : FlowBudget) → Solves s parameter l n b left → outcome_of s parameter l n b ≡ after_points s parameter x l (layout s parameter l n b) (checked left)
   after-solves left g = after-builds g.before g.builds ∙ ap (after_rounds s parameter x l (layout s parameter l n b)) g.paid
@@ -125,19 +122,19 @@ module _ (s : List ℕ) (parameter : ℕ → Bool) (l : Limits) (n : Lengths) (b
       ∙ ap (λ (c : Staged). after_graph s parameter x l (if_ok c (stage l later)))
       (sym (state_due l (layout s parameter l n b) n.scratch (record { sets = n.sets; records = n.records }) left lt))
       ∙ ap (λ (i : ℕ). refused StateLimit i left) (passed-id s g.begins.passed)
-  due_given o (work_counting over g e) =
+  due_given o (work_counting spent g e) =
       after-begins g ∙ ap (λ (c : Charged). after_graph s parameter x l (if_ok (if_met c rooms) (stage l later))) e
-      ∙ ap (λ (i : ℕ). refused WorkLimit i over) (passed-id s g.passed)
-  due_given o (work_building before over g e) =
-      after-fits before g ∙ ap (λ (c : Charged). after_graph s parameter x l (if_met c (staging.Ok (layout s parameter l n b)))) e
-      ∙ ap (λ (i : ℕ). refused WorkLimit i over) (passed-id s g.counts.begins.passed)
-  due_given o (work_solving before over g e) =
+      ∙ ap (λ (i : ℕ). refused WorkLimit i spent) (passed-id s g.passed)
+  due_given o (work_building before spent g e) =
+      after-fits before g ∙ ap (λ (c : Charged). after_graph s parameter x l (if_met c (λ z. Ok (layout s parameter l n b, z)))) e
+      ∙ ap (λ (i : ℕ). refused WorkLimit i spent) (passed-id s g.counts.begins.passed)
+  due_given o (work_solving before spent g e) =
       after-builds before g ∙ ap (after_rounds s parameter x l (layout s parameter l n b)) e
-      ∙ ap (λ (i : ℕ). refused WorkLimit i over) (passed-id s g.fits.counts.begins.passed)
-  due_given o (work_checking over g) = after-checks (stop WorkLimit over) g ∙ ap (λ (i : ℕ). refused WorkLimit i over) (checks-id _ g)
+      ∙ ap (λ (i : ℕ). refused WorkLimit i spent) (passed-id s g.fits.counts.begins.passed)
+  due_given o (work_checking spent g) = after-checks (stop WorkLimit spent) g ∙ ap (λ (i : ℕ). refused WorkLimit i spent) (checks-id _ g)
   due_given o (unfilled_slot left g) = after-checks (stop UnfilledSlot left) g ∙ ap (λ (i : ℕ). refused UnfilledSlot i left) (checks-id _ g)
   due_given o (host_over_await left g) = after-checks (stop HostOverAwait left) g ∙ ap (λ (i : ℕ). refused HostOverAwait i left) (checks-id _ g)
-  due_given o (facts_limit over g) = after-checks (stop FactsLimit over) g ∙ ap (λ (i : ℕ). refused FactsLimit i over) (checks-id _ g)
+  due_given o (facts_limit spent g) = after-checks (stop FactsLimit spent) g ∙ ap (λ (i : ℕ). refused FactsLimit i spent) (checks-id _ g)
   due_given o (acceptance left g) =
       after-checks (on left) g
       ∙ ap (λ (i : ℕ). accepted i (layout s parameter l n b).blocks (length (points (code s) parameter (layout s parameter l n b).words)) left) (checks-id _ g)
@@ -159,11 +156,11 @@ module _ (s : List ℕ) (parameter : ℕ → Bool) (l : Limits) (n : Lengths) (b
       (refusals (code s) parameter l (layout s parameter l n b).words x.slots (host s) before r left e)
 
   due-solved : (before : FlowBudget) → Builds s parameter l n b before → (c : Charged) → charged l before rounds ≡ c → SomeDue
-  due-solved before g (Over over) e = (_, work_solving before over g e)
+  due-solved before g (Err x) e = (_, work_solving before x.budget g e)
   due-solved before g (Ok left) e = due-checked left (record { before = before; builds = g; paid = e }) (checked left) refl
 
   due-built : (before : FlowBudget) → Fits s parameter l n b before → (c : Charged) → charged l before later ≡ c → SomeDue
-  due-built before g (Over over) e = (_, work_building before over g e)
+  due-built before g (Err x) e = (_, work_building before x.budget g e)
   due-built before g (Ok left) e = due-solved left (record { before = before; fits = g; paid = e }) (charged l left rounds) refl
 
   due-room : (left : FlowBudget) → Counts s parameter l n b left → state_bytes (layout s parameter l n b).blocks (layout s parameter l n b).words ≤ l.state
@@ -176,7 +173,7 @@ module _ (s : List ℕ) (parameter : ℕ → Bool) (l : Limits) (n : Lengths) (b
   due-counted left g (no ge) = due-room left g (omega arith) (short s parameter l n b) refl
 
   due-begun : Begins s parameter l n b → (c : Charged) → charged l b (counting_charges (code s)) ≡ c → SomeDue
-  due-begun g (Over over) e = (_, work_counting over g e)
+  due-begun g (Err x) e = (_, work_counting x.budget g e)
   due-begun g (Ok left) e = due-counted left (record { begins = g; paid = e }) (dec_lt _ _)
 
   due-passed : refusal s ≡ none → Dec (n.scratch < 4 * (layout s parameter l n b).instructions) → SomeDue

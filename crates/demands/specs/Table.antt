@@ -1,14 +1,13 @@
 -- Document 01's refusal table with its last paragraph, row by row: which answer is due for these bytes, with these parameters, limits, lent lengths
 -- and budget. Rows 1 to 9 and 17 are `refusal`, whose rows stand in crates/sheet/specs/Rows.antt. The law `table` says that each answer is given exactly if
 -- it is due.
-use Rattle.std.specs.Prelude.{◌≡◌, Bool, true, false, List, ℕ, ◌*◌, ◌≤◌, ◌<◌, length}
+use Rattle.std.specs.Prelude.{◌≡◌, Bool, true, false, List, ℕ, ◌*◌, ◌≤◌, ◌<◌, length, Ok}
 use Rattle.std.proofs.Math.Option.{none, some}
 use Rattle.dataflow.specs.Charges.{counting_charges, building_charges, fixed_points_charges}
 use Rattle.dataflow.specs.Results.{block_count}
 use Rattle.budget.specs.declared.FlowBudget.{FlowBudget}
 use Rattle.budget.specs.declared.Limits.{Limits}
-use Rattle.budget.specs.declared.Charged.TheVariants.{Ok, Over}
-use Rattle.budget.specs.Budget.{charged, state_bytes}
+use Rattle.budget.specs.Budget.{charged, over, state_bytes}
 use Rattle.format.specs.declared.refusal.Refusal.{Refusal}
 use Rattle.format.specs.declared.refusal.Refusal.TheVariants.{NoRoom, StateLimit, WorkLimit, UnfilledSlot, HostOverAwait, FactsLimit}
 use Rattle.sizes.specs.declared.Layout.{Layout}
@@ -72,16 +71,16 @@ module _ (s : List ℕ) (parameter : ℕ → Bool) (l : Limits) (n : Lengths) (b
     -- 11
     state_limit : (left : FlowBudget) → Counts left → l.state < state_bytes layout.blocks layout.words → Due (refused StateLimit (id_of s) left)
     -- 12: in the first loop of `graph`, in its rest or `reachability`, in `fixed_points`, in `check_points`
-    work_counting : (over : FlowBudget) → Begins → charged l b (counting_charges (code s)) ≡ Over over → Due (refused WorkLimit (id_of s) over)
-    work_building : (before over : FlowBudget) → Fits before → charged l before (building_charges (code s)) ≡ Over over
-        → Due (refused WorkLimit (id_of s) over)
-    work_solving : (before over : FlowBudget) → Builds before
-        → charged l before (fixed_points_charges (code s) parameter layout.words) ≡ Over over → Due (refused WorkLimit (id_of s) over)
-    work_checking : (over : FlowBudget) → Checks (stop WorkLimit over) → Due (refused WorkLimit (id_of s) over)
+    work_counting : (spent : FlowBudget) → Begins → charged l b (counting_charges (code s)) ≡ over spent → Due (refused WorkLimit (id_of s) spent)
+    work_building : (before spent : FlowBudget) → Fits before → charged l before (building_charges (code s)) ≡ over spent
+        → Due (refused WorkLimit (id_of s) spent)
+    work_solving : (before spent : FlowBudget) → Builds before
+        → charged l before (fixed_points_charges (code s) parameter layout.words) ≡ over spent → Due (refused WorkLimit (id_of s) spent)
+    work_checking : (spent : FlowBudget) → Checks (stop WorkLimit spent) → Due (refused WorkLimit (id_of s) spent)
     -- 13, 14, 15
     unfilled_slot : (left : FlowBudget) → Checks (stop UnfilledSlot left) → Due (refused UnfilledSlot (id_of s) left)
     host_over_await : (left : FlowBudget) → Checks (stop HostOverAwait left) → Due (refused HostOverAwait (id_of s) left)
-    facts_limit : (over : FlowBudget) → Checks (stop FactsLimit over) → Due (refused FactsLimit (id_of s) over)
+    facts_limit : (spent : FlowBudget) → Checks (stop FactsLimit spent) → Due (refused FactsLimit (id_of s) spent)
     -- acceptance
     acceptance : (left : FlowBudget) → Checks (on left)
         → Due (accepted (id_of s) layout.blocks (length (points (code s) parameter layout.words)) left)

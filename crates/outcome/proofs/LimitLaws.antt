@@ -11,17 +11,13 @@ use Rattle.dataflow.specs.Lists.{pick}
 use Rattle.dataflow.specs.Charges.{fixed_points_charges}
 use Rattle.budget.specs.declared.FlowBudget.{FlowBudget}
 use Rattle.budget.specs.declared.Limits.{Limits}
-use Rattle.budget.specs.declared.Charged.{Charged}
-use Rattle.budget.specs.declared.Charged.TheVariants as charging
-use Rattle.budget.specs.Budget.{NowhereLower, charged}
+use Rattle.budget.specs.Budget.{Charged, NowhereLower, charged}
 use Rattle.budget.proofs.LimitLaws.{charged_higher}
 use Rattle.format.specs.declared.refusal.Refusal.{Refusal}
 use Rattle.format.specs.declared.refusal.Refusal.TheVariants.{NoRoom}
 use Rattle.sizes.specs.declared.Layout.{Layout}
 use Rattle.sizes.specs.declared.Lent.{Lent}
-use Rattle.sizes.specs.declared.Staged.{Staged}
-use Rattle.sizes.specs.declared.Staged.TheVariants as staging
-use Rattle.sizes.specs.Stages.{graph_of}
+use Rattle.sizes.specs.Stages.{Staged, graph_of}
 use Rattle.sizes.proofs.LimitLaws.{graph_higher}
 use Rattle.sheet.specs.declared.script.Script.{Script}
 use Rattle.sheet.specs.declared.script.Refused.{Refused}
@@ -58,8 +54,8 @@ module _ (s : List ℕ) (parameter : ℕ → Bool) (l h : Limits) (le : NowhereL
       where
         go : (c : Charged) → charged l b (fixed_points_charges (flow_code (parts_of s)) parameter y.words) ≡ c → Is (after_rounds s parameter x l y c)
             → Is (after_rounds s parameter x h y (charged h b (fixed_points_charges (flow_code (parts_of s)) parameter y.words)))
-        go (charging.Over z) q e = absurd (refused-not_accepted e)
-        go (charging.Ok z) q e =
+        go (Err z) q e = absurd (refused-not_accepted e)
+        go (Ok z) q e =
             ap (after_rounds s parameter x h y) (charged_higher l h le b z (fixed_points_charges (flow_code (parts_of s)) parameter y.words) q) ∙ rounds y z e
 
     stages : (lent : Lent) (n : ℕ) (b : FlowBudget) → Is (after_graph s parameter x l (graph_of (flow_code (parts_of s)) x l lent n b))
@@ -68,8 +64,8 @@ module _ (s : List ℕ) (parameter : ℕ → Bool) (l h : Limits) (le : NowhereL
       where
         go : (r : Staged) → graph_of (flow_code (parts_of s)) x l lent n b ≡ r → Is (after_graph s parameter x l r)
             → Is (after_graph s parameter x h (graph_of (flow_code (parts_of s)) x h lent n b))
-        go (staging.Refused r z) q e = absurd (refused-not_accepted e)
-        go (staging.Ok y z) q e = ap (after_graph s parameter x h) (graph_higher l h le (flow_code (parts_of s)) x lent n b y z q) ∙ charges y z e
+        go (Err z) q e = absurd (refused-not_accepted e)
+        go (Ok z) q e = ap (after_graph s parameter x h) (graph_higher l h le (flow_code (parts_of s)) x lent n b z.0 z.1 q) ∙ charges z.0 z.1 e
 
     judging : (n : Lengths) (b : FlowBudget) → Is (judged s parameter x l n b) → Is (judged s parameter x h n b)
     judging n b e = go (ltb n.scratch (4 * x.count)) e

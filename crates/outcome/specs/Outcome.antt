@@ -4,9 +4,7 @@ use Rattle.std.specs.Prelude.{Bool, List, ℕ, ◌*◌, ltb, length, Result, Ok,
 use Rattle.dataflow.specs.Lists.{pick}
 use Rattle.budget.specs.declared.FlowBudget.{FlowBudget}
 use Rattle.budget.specs.declared.Limits.{Limits}
-use Rattle.budget.specs.declared.Charged.{Charged}
-use Rattle.budget.specs.declared.Charged.TheVariants as charging
-use Rattle.budget.specs.Budget.{charged}
+use Rattle.budget.specs.Budget.{Charged, charged}
 use Rattle.format.specs.declared.refusal.Refusal.{Refusal}
 use Rattle.format.specs.declared.refusal.Refusal.TheVariants.{NoRoom, WorkLimit}
 use Rattle.sizes.specs.declared.Layout.{Layout}
@@ -15,9 +13,7 @@ use Rattle.sheet.specs.declared.script.Refused.{Refused}
 use Rattle.sheet.specs.Decode.{parts_of}
 use Rattle.sheet.specs.Scripts.{checked_of}
 use Rattle.script.specs.Script.{flow_code, host_in}
-use Rattle.sizes.specs.declared.Staged.{Staged}
-use Rattle.sizes.specs.declared.Staged.TheVariants as staging
-use Rattle.sizes.specs.Stages.{graph_of}
+use Rattle.sizes.specs.Stages.{Staged, graph_of}
 use Rattle.dataflow.specs.Charges.{fixed_points_charges}
 use Rattle.verdict.specs.Points.{Checking, stop, on, points_run, points}
 
@@ -45,14 +41,14 @@ module _ (s : List ℕ) (parameter : ℕ → Bool) (x : Script) (l : Limits) whe
 
   -- `fixed_points`, then `check_points`
   abbrev pub after_rounds : Layout → Charged → Outcome
-  after_rounds y (charging.Over b) = refused WorkLimit x.id b
-  after_rounds y (charging.Ok b) =
+  after_rounds y (Err e) = refused WorkLimit x.id e.budget
+  after_rounds y (Ok b) =
       after_points y (points_run (flow_code (parts_of s)) parameter l y.words x.slots (host_in (parts_of s)) b)
 
   -- `graph` and `reachability`, then the rest
   abbrev pub after_graph : Staged → Outcome
-  after_graph (staging.Refused r b) = refused r x.id b
-  after_graph (staging.Ok y b) = after_rounds y (charged l b (fixed_points_charges (flow_code (parts_of s)) parameter y.words))
+  after_graph (Err e) = refused e.why x.id e.budget
+  after_graph (Ok r) = after_rounds r.0 (charged l r.1 (fixed_points_charges (flow_code (parts_of s)) parameter r.0.words))
 
   -- "then scratch below 4 × N words is 10. Then the source's steps"
   abbrev pub judged : Lengths → FlowBudget → Outcome

@@ -4,6 +4,7 @@ use mathlib.Core.Bool.{Bool, true, false, ◌&&◌}
 use mathlib.Core.List.{List, [], ◌∷◌}
 use Prim.Native.Nat.{ℕ}
 use native.Mathlib.Omega.{arith}
+use Rattle.std.specs.Prelude.{Result, Ok, Err}
 use Rattle.dataflow.specs.Lists.{pick, range, every, some}
 use Rattle.dataflow.specs.Analyses.{init_transfer, live_along}
 use Rattle.dataflow.specs.Code.{Instruction, instruction_at, await_at, program, body}
@@ -11,9 +12,8 @@ use Rattle.dataflow.specs.Results.{block_count, reachable, init_entry, live_exit
 use Rattle.dataflow.specs.Charges.{cost_at}
 use Rattle.budget.specs.declared.FlowBudget.{FlowBudget}
 use Rattle.budget.specs.declared.Limits.{Limits}
-use Rattle.budget.specs.declared.Charged.{Charged}
-use Rattle.budget.specs.declared.Charged.TheVariants.{Ok, Over}
-use Rattle.budget.specs.Budget.{NowhereLower, charged, retained, facts_bytes}
+use Rattle.budget.specs.declared.OverFacts.{OverFacts}
+use Rattle.budget.specs.Budget.{Charged, NowhereLower, charged, retained, facts_bytes}
 use Rattle.budget.proofs.LimitLaws.{charged_higher, retained_higher}
 use Rattle.format.specs.declared.refusal.Refusal.{Refusal}
 use Rattle.format.specs.declared.refusal.Refusal.TheVariants.{UnfilledSlot, HostOverAwait}
@@ -41,11 +41,11 @@ stopped e = let z : ◌≡◌ {A = ℕ} 0 1 = cc in omega arith
 -- the charges were met, and what followed went on
 paid-on : (c : Charged) (f : FlowBudget → Checking) (left : FlowBudget) → if_paid c f ≡ on left → (b : FlowBudget) × (c ≡ Ok b) × (f b ≡ on left)
 paid-on (Ok b) f left e = (b, refl, e)
-paid-on (Over b) f left e = absurd (stopped e)
+paid-on (Err x) f left e = absurd (stopped e)
 
-kept_on : (c : Charged) (left : FlowBudget) → if_kept c ≡ on left → c ≡ Ok left
+kept_on : (c : Result FlowBudget OverFacts) (left : FlowBudget) → if_kept c ≡ on left → c ≡ Ok left
 kept_on (Ok b) left e = let q : b ≡ left = cc in ap Ok q
-kept_on (Over b) left e = absurd (stopped e)
+kept_on (Err x) left e = absurd (stopped e)
 
 then-on : (c : Checking) (f : FlowBudget → Checking) (left : FlowBudget) → and_then c f ≡ on left → (b : FlowBudget) × (c ≡ on b) × (f b ≡ on left)
 then-on (on b) f left e = (b, refl, e)

@@ -7,6 +7,7 @@ use native.Mathlib.Omega.{arith}
 use native.Mathlib.Nat.{add-mul, suc-mul, zero-mul}
 use lib.Dec.{leb}
 use lib.ListN.{length, length-append}
+use Rattle.std.specs.Prelude.{Ok, Err}
 use Rattle.dataflow.specs.Lists.{pick, range, every, some}
 use Rattle.dataflow.specs.Charges.{cost_at, Spent, within, crossed, saturating_sum, spend}
 use Rattle.dataflow.proofs.Charges.{sum-exact}
@@ -15,9 +16,7 @@ use Rattle.dataflow.specs.Code.{Instruction, instruction_at, program, body, awai
 use Rattle.dataflow.specs.Results.{block_count, reachable, init_entry, live_exit}
 use Rattle.budget.specs.declared.FlowBudget.{FlowBudget}
 use Rattle.budget.specs.declared.Limits.{Limits}
-use Rattle.budget.specs.declared.Charged.{Charged}
-use Rattle.budget.specs.declared.Charged.TheVariants.{Ok, Over}
-use Rattle.budget.specs.Budget.{after_spent, budget_of, charged, retained, facts_bytes}
+use Rattle.budget.specs.Budget.{Charged, after_spent, budget_of, charged, over_facts, retained, facts_bytes}
 use Rattle.format.specs.declared.refusal.Refusal.{Refusal}
 use Rattle.format.specs.declared.refusal.Refusal.TheVariants.{UnfilledSlot, HostOverAwait}
 use Rattle.verdict.specs.Points.{Checking, stop, on, and_then, if_paid, if_kept}
@@ -71,7 +70,7 @@ keeps-paid {r} l b cs f next = go (charged l b cs) (charged-retained l b cs)
   where
     go : (c : Charged) → (budget_of c).retained ≡ b.retained → Keeps r (if_paid c f)
     go (Ok b') e = next b' e
-    go (Over b') e = stopped
+    go (Err x) e = stopped
 
 -- an await adds its facts
 keeps-facts : (l : Limits) (b : FlowBudget) (n : ℕ) → Keeps (saturating_sum b.retained n) (if_kept (retained l b n))
@@ -81,7 +80,7 @@ keeps-facts l b n = go (leb (saturating_sum b.retained n) l.facts)
     next : FlowBudget
     next = record { work = b.work; retained = saturating_sum b.retained n }
 
-    go : (t : Bool) → Keeps (saturating_sum b.retained n) (if_kept (pick t (Ok next) (Over next)))
+    go : (t : Bool) → Keeps (saturating_sum b.retained n) (if_kept (pick t (Ok next) (over_facts next)))
     go true = kept refl
     go false = stopped
 

@@ -4,6 +4,7 @@ use mathlib.Core.Bool.{Bool, true, false, not, ◌&&◌, ◌||◌, or-true}
 use mathlib.Core.List.{List, [], ◌∷◌}
 use mathlib.Core.Logic.{◌⊎◌, inl, inr, ◌↔◌}
 use Prim.Native.Nat.{ℕ, ◌*◌, ◌≤◌}
+use Rattle.std.specs.Prelude.{Result, Ok, Err}
 use Rattle.dataflow.specs.Lists.{pick, range, every, some}
 use Rattle.dataflow.specs.Program.{Program}
 use Rattle.dataflow.specs.Analyses.{init_transfer, live_along}
@@ -18,9 +19,8 @@ use Rattle.dataflow.proofs.Results.{reachable_iff}
 use Rattle.dataflow.proofs.Verdict.{block_unfilled_iff, block_holds_iff, accepts_iff}
 use Rattle.budget.specs.declared.FlowBudget.{FlowBudget}
 use Rattle.budget.specs.declared.Limits.{Limits}
-use Rattle.budget.specs.declared.Charged.{Charged}
-use Rattle.budget.specs.declared.Charged.TheVariants.{Ok, Over}
-use Rattle.budget.specs.Budget.{charged, retained, facts_bytes}
+use Rattle.budget.specs.declared.OverFacts.{OverFacts}
+use Rattle.budget.specs.Budget.{Charged, charged, retained, facts_bytes}
 use Rattle.format.specs.declared.refusal.Refusal.{Refusal}
 use Rattle.format.specs.declared.refusal.Refusal.TheVariants.{WorkLimit, UnfilledSlot, HostOverAwait, FactsLimit}
 use Rattle.verdict.specs.Points.{Checking, stop, on, and_then, if_paid, if_kept}
@@ -58,12 +58,12 @@ module _ {fine unfilled held : Type 0} where
   -- a charge may stop with 12
   says-paid : (c : Charged) (f : FlowBudget → Checking) → ((b : FlowBudget) → Says fine unfilled held (f b)) → Says fine unfilled held (if_paid c f)
   says-paid (Ok b) f next = next b
-  says-paid (Over b) f next = out_of_work
+  says-paid (Err x) f next = out_of_work
 
   -- retained facts may stop with 15
-  says-kept : (c : Charged) → fine → Says fine unfilled held (if_kept c)
+  says-kept : (c : Result FlowBudget OverFacts) → fine → Says fine unfilled held (if_kept c)
   says-kept (Ok b) s = goes_on s
-  says-kept (Over b) s = out_of_room
+  says-kept (Err x) s = out_of_room
 
 -- some is missing exactly if not all are there
 missing-some : (f : ℕ → Bool) (l : List ℕ) → some (λ s. not (f s)) l ≡ not (every f l)

@@ -1,5 +1,5 @@
 -- flow.rs `check_points` as a run: the reachable blocks by start, each with its reads from the front and then its awaits from the back.
-use Rattle.std.specs.Prelude.{Bool, ◌&&◌, List, [], ◌∷◌, ◌++◌, ℕ}
+use Rattle.std.specs.Prelude.{Bool, ◌&&◌, List, [], ◌∷◌, ◌++◌, ℕ, Result, Ok, Err}
 use Rattle.dataflow.specs.Lists.{pick, range, every, some}
 use Rattle.dataflow.specs.Analyses.{init_transfer, live_along}
 use Rattle.dataflow.specs.Code.{Instruction, instruction_at, program, body, await_at}
@@ -7,9 +7,8 @@ use Rattle.dataflow.specs.Results.{block_count, reachable, init_entry, live_exit
 use Rattle.dataflow.specs.Charges.{cost_at}
 use Rattle.budget.specs.declared.FlowBudget.{FlowBudget}
 use Rattle.budget.specs.declared.Limits.{Limits}
-use Rattle.budget.specs.declared.Charged.{Charged}
-use Rattle.budget.specs.declared.Charged.TheVariants.{Ok, Over}
-use Rattle.budget.specs.Budget.{charged, retained, facts_bytes}
+use Rattle.budget.specs.declared.OverFacts.{OverFacts}
+use Rattle.budget.specs.Budget.{Charged, charged, retained, facts_bytes}
 use Rattle.format.specs.declared.refusal.Refusal.{Refusal}
 use Rattle.format.specs.declared.refusal.Refusal.TheVariants.{WorkLimit, UnfilledSlot, HostOverAwait, FactsLimit}
 
@@ -26,12 +25,12 @@ and_then (on b) f = f b
 -- 12 if a charge crossed the limit, else what follows
 abbrev pub if_paid : Charged → (FlowBudget → Checking) → Checking
 if_paid (Ok b) f = f b
-if_paid (Over b) f = stop WorkLimit b
+if_paid (Err e) f = stop WorkLimit e.budget
 
 -- 15 if retained facts crossed their limit
-abbrev pub if_kept : Charged → Checking
+abbrev pub if_kept : Result FlowBudget OverFacts → Checking
 if_kept (Ok b) = on b
-if_kept (Over b) = stop FactsLimit b
+if_kept (Err e) = stop FactsLimit e.budget
 
 -- an await and its set
 pub record Point : Type 0 where
