@@ -1,7 +1,7 @@
--- `examine_asked`: what it does by what its calls do. Assumes nothing.
+-- `examine_with`: what it does by what its calls do. Assumes nothing.
 use mathlib.Core.Path.{◌≡◌, refl, sym, ap, subst, ◌∙◌}
-use mathlib.Core.Bool.{Bool, true, false, ◌||◌, false≢true}
-use mathlib.Core.List.{List}
+use mathlib.Core.Bool.{Bool, true, false, ◌||◌}
+use mathlib.Core.List.{List, [], ◌∷◌}
 use Prim.Native.Nat.{ℕ, ◌*◌, ◌≤◌}
 use native.Mathlib.Omega.{arith}
 use borrow.Author.Tests.{ltb-false}
@@ -22,17 +22,19 @@ use Rattle.sheet.specs.Scripts.{script_of}
 use Rattle.sheet.proofs.Checked.{passed}
 use Rattle.instructions.specs.Sound.{Sound}
 use Rattle.instructions.proofs.Sound.{sound-checked}
+use Rattle.bitset.proofs.SetLaws.{member-zero}
+use Rattle.script.specs.Script.{parameter_in}
 use Rattle.starts.specs.Starts.{parameter_with}
+use Rattle.starts.proofs.StartLaws.{with_none}
 use Rattle.outcome.specs.Outcome.{Lengths, lengths_with, Outcome, refused}
 use Rattle.outcome.specs.Buffers.{sets_after}
 use Rattle.examine.specs.declared.Examined.{Examined}
-use Rattle.examine.specs.declared.Examined.TheVariants.{Refused}
+use Rattle.examine.specs.declared.Refused.{Refused}
 use Rattle.examine.specs.Examine.{outcome_in, Examines}
-use Rattle.examine.specs.Stages.{PassedAs, zeros}
-use Rattle.examine.proofs.ExamineLaws.{examines_refused}
+use Rattle.examine.specs.Stages.{PassedAs, turned_away, zeros}
 use Rattle.added.specs.Added.{width_of, strays, Taken}
 use Rattle.added.specs.Outcome.{judged_with, after_checks_with, outcome_with}
-use Rattle.added.specs.Examine.{tested_of, ExaminesWith, ExaminesAsked}
+use Rattle.added.specs.Examine.{tested_of, ExaminesWith}
 use Rattle.added.proofs.OutcomeLaws.{taken_outcome}
 
 -- the sizes of a script that passed
@@ -60,34 +62,24 @@ good-both true u e = let q : ◌≡◌ {A = ℕ} 0 1 = cc in absurd (omega arith
 good-both false true e = let q : ◌≡◌ {A = ℕ} 0 1 = cc in absurd (omega arith)
 good-both false false e = (refl, refl)
 
-err-not_ok : {r : Refusal} → ◌≡◌ {A = Test} (Err r) (Ok tt) → ⊥
-err-not_ok e = let q : ◌≡◌ {A = ℕ} 0 1 = cc in omega arith
-
 module _ (s added : List ℕ) (l : Limits) (records : ℕ) (b : FlowBudget) (w v : List ℕ) where
   abbrev n : Lengths
   n = lengths_with w v records
 
   -- a refusal with the budget as given; the sets buffer is cleared
-  turned-away : (q : Refusal) (id : ℕ) (w' v' : List ℕ) (r : Examined) → refused q id b ≡ outcome_with s added l n b → r ≡ Refused q id b
-      → v' ≡ zeros v → ExaminesWith s added l records b w w' v v' r
+  turned-away : (q : Refusal) (id : ℕ) (w' v' : List ℕ) (r : Result Examined Refused) → refused q id b ≡ outcome_with s added l n b
+      → r ≡ turned_away q id b → v' ≡ zeros v → ExaminesWith s added l records b w w' v v' r
   turned-away q id w' v' r eo er ev = record {
     answer = ap outcome_in er ∙ eo;
-    sets = ev ∙ ap (λ (z : Examined). sets_after s (parameter_with (parts_of s) added) n (outcome_in z)) (sym er);
-    listing = λ i y awaits z e. let o : ◌≡◌ {A = ℕ} 0 1 = cc in absurd (omega arith);
+    sets = ev ∙ ap (λ (z : Result Examined Refused). sets_after s (parameter_with (parts_of s) added) n (outcome_in z)) (sym er);
+    listing = λ x e. let o : ◌≡◌ {A = ℕ} 0 1 = cc in absurd (omega arith);
   }
 
   -- the checks refuse
-  bad_sheet-with : (c : Result Script sheets.Refused) → Checks s c → (e : sheets.Refused) (w' v' : List ℕ) (r : Examined) → c ≡ Err e
-      → r ≡ Refused e.why e.id b → v' ≡ zeros v → ExaminesWith s added l records b w w' v v' r
+  pub bad_sheet_with : (c : Result Script sheets.Refused) → Checks s c → (e : sheets.Refused) (w' v' : List ℕ) (r : Result Examined Refused) → c ≡ Err e
+      → r ≡ turned_away e.why e.id b → v' ≡ zeros v → ExaminesWith s added l records b w w' v v' r
   unfolding outcome_with
-  bad_sheet-with c checks e w' v' r ec = turned-away e.why e.id w' v' r (ap (after_checks_with s added l n b) (sym ec ∙ checks.answer))
-
-  pub bad_sheet_asked : (asked : Bool) (c : Result Script sheets.Refused) → Checks s c → (e : sheets.Refused) (w' v' : List ℕ) (r : Examined) → c ≡ Err e
-      → r ≡ Refused e.why e.id b → v' ≡ zeros v → ExaminesAsked s added asked l records b w w' v v' r
-  bad_sheet_asked asked c checks e w' v' r ec er ev = record {
-    tested = λ p. bad_sheet-with c checks e w' v' r ec er ev;
-    untested = λ p. examines_refused s (parameter_with (parts_of s) added) l records b w v c checks e w' v' r ec er ev;
-  }
+  bad_sheet_with c checks e w' v' r ec = turned-away e.why e.id w' v' r (ap (after_checks_with s added l n b) (sym ec ∙ checks.answer))
 
   -- they pass
   module _ (x : Script) (p : PassedAs s x) where
@@ -99,25 +91,24 @@ module _ (s added : List ℕ) (l : Limits) (records : ℕ) (b : FlowBudget) (w v
     script-is = (passed s x (sym p.answer)).1
 
     -- the set is not taken
-    pub turned_away_asked : (asked : Bool) (q : Refusal) (w' v' : List ℕ) (r : Examined) → Err q ≡ tested_of asked added x (length w)
-        → r ≡ Refused q x.id b → v' ≡ zeros v → ExaminesAsked s added asked l records b w w' v v' r
-    turned_away_asked true q w' v' r e er ev = record {
-      tested = λ p. turned-away q x.id w' v' r
-          (bad-judged x.id b (ltb (length w) (4 * x.count) || ltb (length added) (width_of x.slots)) (strays x.slots added) q _ e ∙ answer-is) er ev;
-      untested = λ p. absurd (false≢true (sym p));
-    }
-    turned_away_asked false q w' v' r e er ev = absurd (err-not_ok e)
+    pub not_taken : (q : Refusal) (w' v' : List ℕ) (r : Result Examined Refused) → Err q ≡ tested_of added x (length w)
+        → r ≡ turned_away q x.id b → v' ≡ zeros v → ExaminesWith s added l records b w w' v v' r
+    not_taken q w' v' r e = turned-away q x.id w' v' r
+        (bad-judged x.id b (ltb (length w) (4 * x.count) || ltb (length added) (width_of x.slots)) (strays x.slots added) q _ e ∙ answer-is)
 
     -- the script is judged
-    pub judged_asked : (asked : Bool) (w' v' : List ℕ) (r : Examined) → Ok tt ≡ tested_of asked added x (length w)
-        → Examines s (parameter_with (parts_of s) added) l records b w w' v v' r → ExaminesAsked s added asked l records b w w' v v' r
-    judged_asked true w' v' r e h = record {
-      tested = λ p.
-          let z = good-both (ltb (length w) (4 * x.count) || ltb (length added) (width_of x.slots)) (strays x.slots added) e in
-          let long = second_long (length w) (4 * x.count) (length added) (width_of x.slots) z.0 in
-          let taken : Taken (script_of s).slots added =
-          subst (λ (y : Script). Taken y.slots added) script-is (record { long = long; slots_only = z.1 }) in
-          record { answer = h.answer ∙ sym (taken_outcome s added l n b taken); sets = h.sets; listing = h.listing };
-      untested = λ p. absurd (false≢true (sym p));
-    }
-    judged_asked false w' v' r e h = record { tested = λ p. absurd (false≢true p); untested = λ p. h }
+    pub judged_taken : (w' v' : List ℕ) (r : Result Examined Refused) → Ok tt ≡ tested_of added x (length w)
+        → Examines s (parameter_with (parts_of s) added) l records b w w' v v' r → ExaminesWith s added l records b w w' v v' r
+    judged_taken w' v' r e h =
+        let z = good-both (ltb (length w) (4 * x.count) || ltb (length added) (width_of x.slots)) (strays x.slots added) e in
+        let long = second_long (length w) (4 * x.count) (length added) (width_of x.slots) z.0 in
+        let taken : Taken (script_of s).slots added = subst (λ (y : Script). Taken y.slots added) script-is (record { long = long; slots_only = z.1 }) in
+        record { answer = h.answer ∙ sym (taken_outcome s added l n b taken); sets = h.sets; listing = h.listing }
+
+-- ---- no added set
+
+-- words without a bit add nothing
+pub nothing_added : {s : List ℕ} {l : Limits} {records : ℕ} {b : FlowBudget} {w w₁ v v' : List ℕ} {r : Result Examined Refused}
+    → Examines s (parameter_with (parts_of s) (0 ∷ [])) l records b w w₁ v v' r → Examines s (parameter_in (parts_of s)) l records b w w₁ v v' r
+nothing_added {s = s} {l = l} {records = records} {b = b} {w = w} {w₁ = w₁} {v = v} {v' = v'} {r = r} h =
+    subst (λ (set : ℕ → Bool). Examines s set l records b w w₁ v v' r) (with_none (parts_of s) (0 ∷ []) (member-zero 1)) h

@@ -4,6 +4,7 @@ use mathlib.Core.Bool.{Bool}
 use mathlib.Core.List.{List}
 use Prim.Native.Nat.{ℕ}
 use lib.ListN.{length, replicate}
+use Rattle.std.specs.Prelude.{Result}
 use Rattle.budget.specs.declared.FlowBudget.{FlowBudget}
 use Rattle.budget.specs.declared.Limits.{Limits}
 use Rattle.sheet.specs.Decode.{parts_of}
@@ -13,12 +14,13 @@ use Rattle.outcome.specs.Buffers.{sets_after}
 use Rattle.demands.proofs.DemandLaws.{demands}
 use Rattle.examine.specs.Examine.{outcome_in}
 use Rattle.examine.specs.declared.Examined.{Examined}
+use Rattle.examine.specs.declared.Refused.{Refused}
 use Rattle.added.specs.Outcome.{outcome_with, VerifiedWith}
 use Rattle.added.specs.Examine.{ExaminesWith}
 use Rattle.added.proofs.OutcomeLaws.{added-below, taken_outcome, table_with}
 
 -- a call whose answer is that of `examine_with`, and which then clears scratch
-pub verified-with : {s added : List ℕ} {l : Limits} {b : FlowBudget} {records : ℕ} {w w₁ w' v v' : List ℕ} {e : Examined}
+pub verified-with : {s added : List ℕ} {l : Limits} {b : FlowBudget} {records : ℕ} {w w₁ w' v v' : List ℕ} {e : Result Examined Refused}
     → ExaminesWith s added l records b w w₁ v v' e → (o : Outcome) → o ≡ outcome_in e → w' ≡ replicate (length w₁) 0 → length w₁ ≡ length w
     → VerifiedWith s added l (lengths_with w v records) b o v' w'
 verified-with {s} {added} {l} {b} {records} {w} {w₁} {w'} {v} {v'} {e} h o is cleared long =

@@ -1,14 +1,16 @@
 // A sheet examined, with or without an added set of parameters. Such a set is lent as words: slot i is bit i % 64 of word i / 64.
 #![tactic(auto)]
 
-ghost use Rattle.std.specs.Prelude.{◌≡◌, ◌≤◌, length};
+ghost use Rattle.std.specs.Prelude.{◌≡◌, ◌≤◌, length, MatchOption};
 ghost use Rattle.budget.specs.Budget.{counted};
-ghost use Rattle.examine.specs.Stages.{PassedAs};
+ghost use Rattle.sheet.specs.Decode.{parts_of};
+ghost use Rattle.script.specs.Script.{parameter_in};
+ghost use Rattle.examine.specs.Examine.{Examines};
 ghost use Rattle.added.specs.Added.{width_of, strays};
-ghost use Rattle.added.specs.Examine.{tested_of, ExaminesWith, ExaminesAsked};
+ghost use Rattle.added.specs.Examine.{tested_of, ExaminesWith};
 
 use budget::{FlowBudget, Limits};
-use examine::Examined;
+use examine::{Examined, Refused};
 use format::refusal::Refusal;
 use sheet::script::Script;
 
@@ -22,14 +24,20 @@ pub fn examine_with(
     t: &mut [u64],
     records: usize,
     budget: FlowBudget,
-) -> Examined
+) -> Result<Examined, Refused>
     ensures { ExaminesWith sheet.now added.now (counted limits) records budget s.old s.new t.old t.new result }
 {
-    examine_asked(sheet, limits, s, t, records, budget, added, true)
+    let script = match sheet::check(sheet) {
+        Err(e) => return examine::refuse(t, e.why, e.id, budget),
+        Ok(script) => script,
+    };
+    match test(added, script, s.len()) {
+        Err(why) => examine::refuse(t, why, script.id, budget),
+        Ok(()) => examine::passed(sheet, script, added, limits, budget, s, t, records),
+    }
 }
 
-// The same where `asked` says so; else no test is made of the set, words that it lacks count as zero, and what is no slot is not looked at. Both forms of
-// the call with limits come here.
+// The same if there is a set; else the sheet is examined with its own parameters. Both forms of the call with limits come here.
 pub fn examine_asked(
     sheet: &[u8],
     limits: Limits,
@@ -37,46 +45,22 @@ pub fn examine_asked(
     t: &mut [u64],
     records: usize,
     budget: FlowBudget,
-    added: &[u64],
-    asked: bool,
-) -> Examined
-    ensures { ExaminesAsked sheet.now added.now asked (counted limits) records budget s.old s.new t.old t.new result }
+    added: Option<&[u64]>,
+) -> Result<Examined, Refused>
+    ensures { MatchOption added.entry (Examines sheet.now (parameter_in (parts_of sheet.now)) (counted limits) records budget s.old s.new t.old t.new result)
+        (λ set. ExaminesWith sheet.now set.now (counted limits) records budget s.old s.new t.old t.new result) }
 {
-    match sheet::check(sheet) {
-        Err(e) => examine::refuse(t, e.why, e.id, budget),
-        Ok(script) => passed_asked(sheet, script, added, asked, limits, s, t, records, budget),
+    match added {
+        Some(set) => examine_with(sheet, set, limits, s, t, records, budget),
+        None => examine::examine(sheet, &[0], limits, budget, s, t, records),
     }
 }
 
-// The same of a sheet that passed the checks.
-fn passed_asked(
-    sheet: &[u8],
-    script: Script,
-    added: &[u64],
-    asked: bool,
-    limits: Limits,
-    s: &mut [u64],
-    t: &mut [u64],
-    records: usize,
-    budget: FlowBudget,
-) -> Examined
-    requires { PassedAs sheet.now script }
-    ensures { ExaminesAsked sheet.now added.now asked (counted limits) records budget s.old s.new t.old t.new result }
-{
-    match test(added, asked, script, s.len()) {
-        Err(why) => examine::refuse(t, why, script.id, budget),
-        Ok(()) => examine::passed(sheet, script, added, limits, budget, s, t, records),
-    }
-}
-
-// Whether an added set is taken, or why it is not: the early 10, then 7, if they are asked for.
-fn test(added: &[u64], asked: bool, script: Script, scratch: usize) -> Result<(), Refusal>
+// Whether an added set is taken, or why it is not: the early 10, then 7.
+fn test(added: &[u64], script: Script, scratch: usize) -> Result<(), Refusal>
     requires { (script.count ≤ 65536) × (script.slots ≤ 65536) }
-    ensures { result ≡ tested_of asked added.now script scratch }
+    ensures { result ≡ tested_of added.now script scratch }
 {
-    if !asked {
-        return Ok(());
-    }
     if scratch < 4 * script.count || added.len() < script.slots.div_ceil(64) {
         return Err(Refusal::NoRoom);
     }

@@ -5,6 +5,7 @@ use mathlib.Core.List.{List, [], ◌∷◌}
 use Prim.Native.Nat.{ℕ}
 use native.Mathlib.Omega.{arith}
 use lib.ListN.{length, replicate}
+use Rattle.std.specs.Prelude.{Result, Ok, Err}
 use Rattle.bitset.proofs.SetLaws.{member-zero}
 use Rattle.budget.specs.declared.FlowBudget.{FlowBudget}
 use Rattle.budget.specs.declared.Limits.{Limits}
@@ -22,9 +23,8 @@ use Rattle.demands.proofs.TableLaws.{table}
 use Rattle.demands.proofs.DemandLaws.{Below, sound_script, demands}
 use Rattle.examine.specs.Examine.{outcome_in, Listing, Examines}
 use Rattle.examine.specs.declared.Examined.{Examined}
-use Rattle.examine.specs.declared.Examined.TheVariants.{Accepted, Refused}
-use Rattle.answers.specs.declared.Answer.{Answer}
-use Rattle.answers.specs.Answers.{outcome_by, Verified, answer_in, layout_in}
+use Rattle.examine.specs.declared.Refused.{Refused}
+use Rattle.answers.specs.Answers.{Answer, outcome_by, Verified, answer_in, layout_in}
 
 -- ---- the parameters of a sheet that passed are slots of it
 
@@ -39,44 +39,36 @@ with_slots s added passed = with_below s (script_of s) (sound_script s passed) a
 -- ---- neither limits nor an added set
 
 -- today's limits count as they are, and nothing is added
-pub at_todays : {s : List ℕ} {l : Limits} {records : ℕ} {b : FlowBudget} {w w₁ v v' : List ℕ} {e : Examined} → l ≡ todays
+pub at_todays : {s : List ℕ} {l : Limits} {records : ℕ} {b : FlowBudget} {w w₁ v v' : List ℕ} {e : Result Examined Refused} → l ≡ todays
     → Examines s (parameter_with (parts_of s) (0 ∷ [])) (counted l) records b w w₁ v v' e
     → Examines s (parameter_in (parts_of s)) todays records b w w₁ v v' e
 at_todays {s = s} {records = records} {b = b} {w = w} {w₁ = w₁} {v = v} {v' = v'} {e = e} q h =
     subst (λ (set : ℕ → Bool). Examines s set todays records b w w₁ v v' e) (with_none (parts_of s) (0 ∷ []) (member-zero 1))
     (subst (λ (k : Limits). Examines s (parameter_with (parts_of s) (0 ∷ [])) k records b w w₁ v v' e) (ap counted q) h)
 
--- ---- limits, and no added set
-
--- nothing is added
-pub nothing-added : {s : List ℕ} {l : Limits} {records : ℕ} {b : FlowBudget} {w w₁ v v' : List ℕ} {e : Examined}
-    → Examines s (parameter_with (parts_of s) (0 ∷ [])) l records b w w₁ v v' e → Examines s (parameter_in (parts_of s)) l records b w w₁ v v' e
-nothing-added {s = s} {l = l} {records = records} {b = b} {w = w} {w₁ = w₁} {v = v} {v' = v'} {e = e} h =
-    subst (λ (set : ℕ → Bool). Examines s set l records b w w₁ v v' e) (with_none (parts_of s) (0 ∷ []) (member-zero 1)) h
-
 -- ---- the answer
 
 -- it keeps the outcome
-pub same_outcome : (e : Examined) → outcome_by (answer_in e) ≡ outcome_in e
-same_outcome (Accepted id y awaits b) = refl
-same_outcome (Refused r id b) = refl
+pub same_outcome : (e : Result Examined Refused) → outcome_by (answer_in e) ≡ outcome_in e
+same_outcome (Ok x) = refl
+same_outcome (Err e) = refl
 
 -- what filling a block list asks: scratch has room for the layout. The first is of any answer whose blocks are listed, also one with an added set.
-pub fill_asks-listed : {s : List ℕ} {records : ℕ} {w₁ : List ℕ} {e : Examined}
-    → ((id : ℕ) (y : Layout) (awaits : ℕ) (left : FlowBudget) → e ≡ Accepted id y awaits left → Listing s records w₁ y)
+pub fill_asks-listed : {s : List ℕ} {records : ℕ} {w₁ : List ℕ} {e : Result Examined Refused}
+    → ((x : Examined) → e ≡ Ok x → Listing s records w₁ x.layout)
     → (y : Layout) → y ≡ layout_in e → Room y (length w₁)
 fill_asks-listed {w₁ = w₁} {e = e} listing y q = subst (λ (z : Layout). Room z (length w₁)) (sym q) (go e refl)
   where
-    go : (f : Examined) → e ≡ f → Room (layout_in f) (length w₁)
-    go (Accepted id y awaits left) q = (listing id y awaits left q).room
-    go (Refused r id left) q = record { instructions = omega arith; blocks = omega arith; words = omega arith; extra = omega arith; fits = omega arith }
+    go : (f : Result Examined Refused) → e ≡ f → Room (layout_in f) (length w₁)
+    go (Ok x) q = (listing x q).room
+    go (Err z) q = record { instructions = omega arith; blocks = omega arith; words = omega arith; extra = omega arith; fits = omega arith }
 
-pub fill_asks : {s : List ℕ} {parameter : ℕ → Bool} {l : Limits} {records : ℕ} {b : FlowBudget} {w w₁ v v' : List ℕ} {e : Examined}
+pub fill_asks : {s : List ℕ} {parameter : ℕ → Bool} {l : Limits} {records : ℕ} {b : FlowBudget} {w w₁ v v' : List ℕ} {e : Result Examined Refused}
     → Examines s parameter l records b w w₁ v v' e → (y : Layout) → y ≡ layout_in e → Room y (length w₁)
 fill_asks h = fill_asks-listed h.listing
 
 -- a call whose answer is that of `examine`, and which then clears scratch
-pub verified : {s : List ℕ} {parameter : ℕ → Bool} {l : Limits} {b : FlowBudget} {records : ℕ} {w w₁ w' v v' : List ℕ} {e : Examined}
+pub verified : {s : List ℕ} {parameter : ℕ → Bool} {l : Limits} {b : FlowBudget} {records : ℕ} {w w₁ w' v v' : List ℕ} {e : Result Examined Refused}
     → Below s parameter → Examines s parameter l records b w w₁ v v' e → (r : Answer) → r ≡ answer_in e → w' ≡ replicate (length w₁) 0
     → length w₁ ≡ length w → Verified s parameter l (lengths_with w v records) b (outcome_by r) v' w'
 verified {s} {parameter} {l} {b} {records} {w} {w₁} {w'} {v} {v'} {e} below h r is cleared long =

@@ -1,5 +1,5 @@
 -- What every form of the call says: its answer, what it leaves in the sets buffer and in scratch, and what both mean.
-use Rattle.std.specs.Prelude.{◌≡◌, Bool, List, ◌↔◌, ℕ}
+use Rattle.std.specs.Prelude.{◌≡◌, Bool, List, ◌↔◌, ℕ, Result, Ok, Err}
 use Rattle.budget.specs.declared.FlowBudget.{FlowBudget}
 use Rattle.budget.specs.declared.Limits.{Limits}
 use Rattle.sizes.specs.declared.Layout.{Layout}
@@ -8,15 +8,18 @@ use Rattle.outcome.specs.Buffers.{sets_after, scratch_after}
 use Rattle.demands.specs.Demands.{Demands}
 use Rattle.demands.specs.Table.{Due}
 use Rattle.examine.specs.declared.Examined.{Examined}
-use Rattle.examine.specs.declared.Examined.TheVariants as examined
-use Rattle.answers.specs.declared.Answer.{Answer}
+use Rattle.examine.specs.declared.Refused.{Refused}
+use Rattle.answers.specs.declared.Accepted.{Accepted}
 use Rattle.answers.specs.declared.AnswerWithin.{AnswerWithin}
-use Rattle.answers.specs.declared.Answer.TheVariants.{Accepted, Refused}
+
+-- the answer of a call
+abbrev pub Answer : Type 0
+Answer = Result Accepted Refused
 
 -- an answer in the words of document 01: function id, B, reachable awaits and budget; or refusal, function id and budget
 abbrev pub outcome_by : Answer → Outcome
-outcome_by (Accepted id blocks awaits b) = accepted id blocks awaits b
-outcome_by (Refused r id b) = refused r id b
+outcome_by (Ok a) = accepted a.id a.blocks a.awaits a.budget
+outcome_by (Err e) = refused e.why e.id e.budget
 
 -- What a call does with a sheet s whose parameters are these, with the limits l as they count, buffers of the lengths n and a budget b, if o is its
 -- answer and v' and w' are the words of the sets buffer and of scratch at exit. A form of the call adds its block list and its form of the answer.
@@ -32,15 +35,15 @@ pub record Verified (s : List ℕ) (parameter : ℕ → Bool) (l : Limits) (n : 
   pub demands : Demands s parameter o v'
 
 -- the answer of `examine` without its layout
-abbrev pub answer_in : Examined → Answer
-answer_in (examined.Accepted id y awaits b) = Accepted id y.blocks awaits b
-answer_in (examined.Refused r id b) = Refused r id b
+abbrev pub answer_in : Result Examined Refused → Answer
+answer_in (Ok x) = Ok (record { id = x.id; blocks = x.layout.blocks; awaits = x.awaits; budget = x.budget })
+answer_in (Err e) = Err e
 
 -- with the limits as they were given
-abbrev pub answer_within : Examined → Limits → AnswerWithin
-answer_within e l = record { answer = answer_in e; limits = l }
+abbrev pub answer_within : Result Examined Refused → Limits → AnswerWithin
+answer_within r l = record { answer = answer_in r; limits = l }
 
 -- the layout in it: none after a refusal
-abbrev pub layout_in : Examined → Layout
-layout_in (examined.Accepted id y awaits b) = y
-layout_in (examined.Refused r id b) = record { instructions = 0; blocks = 0; words = 0; awaits = 0; extra = 0 }
+abbrev pub layout_in : Result Examined Refused → Layout
+layout_in (Ok x) = x.layout
+layout_in (Err e) = record { instructions = 0; blocks = 0; words = 0; awaits = 0; extra = 0 }

@@ -9,19 +9,23 @@ ghost use Rattle.examine.specs.Examine.{Examines};
 ghost use Rattle.answers.specs.Answers.{answer_in, answer_within, layout_in};
 
 use budget::{FlowBudget, Limits};
-use examine::Examined;
-use format::refusal::Refusal;
+use examine::{Examined, Refused};
 use sizes::Layout;
 
-// Accepted with the function's id, how many blocks there are, how many awaits are reached, and the budget; or refused with the id and the budget.
-#[derive(Clone, Copy)]
-pub enum Answer {
-    Accepted(u32, usize, usize, FlowBudget),
-    Refused(Refusal, u32, FlowBudget),
+// A sheet that is accepted: the function's id, how many blocks there are, how many awaits are reached, and the budget as charged.
+#[derive(Clone, Copy, PartialEq, Eq, Debug)]
+pub struct Accepted {
+    pub id: u32,
+    pub blocks: usize,
+    pub awaits: usize,
+    pub budget: FlowBudget,
 }
 
+// The answer of a call.
+pub type Answer = Result<Accepted, Refused>;
+
 // The answer of a call that is handed limits, which come back as they were given.
-#[derive(Clone, Copy)]
+#[derive(Clone, Copy, PartialEq, Eq, Debug)]
 pub struct AnswerWithin {
     pub answer: Answer,
     pub limits: Limits,
@@ -34,7 +38,7 @@ pub fn examined(
     t: &mut [u64],
     records: usize,
     budget: FlowBudget,
-) -> Examined
+) -> Result<Examined, Refused>
     ensures { Examines sheet.now (parameter_in (parts_of sheet.now)) todays records budget s.old s.new t.old t.new result }
 {
     let none = [0u64; 1];
@@ -49,20 +53,19 @@ pub fn examined_within(
     t: &mut [u64],
     records: usize,
     budget: FlowBudget,
-) -> Examined
+) -> Result<Examined, Refused>
     ensures { Examines sheet.now (parameter_in (parts_of sheet.now)) (counted limits) records budget s.old s.new t.old t.new result }
 {
-    let nothing = [0u64; 1];
-    added::examine_asked(sheet, limits, s, t, records, budget, &nothing, false)
+    added::examine_asked(sheet, limits, s, t, records, budget, None)
 }
 
-// The layout of the blocks in scratch: none after a refusal.
-pub fn layout_of(e: Examined) -> Layout
+// The layout of the blocks in scratch: none after a refusal. Functions and no impls here and below: `Result` is no type of this crate.
+pub fn layout_of(e: Result<Examined, Refused>) -> Layout
     ensures { result ≡ layout_in e }
 {
     match e {
-        Examined::Accepted(_, y, _, _) => y,
-        Examined::Refused(_, _, _) => Layout {
+        Ok(x) => x.layout,
+        Err(_) => Layout {
             instructions: 0,
             blocks: 0,
             words: 0,
@@ -73,24 +76,22 @@ pub fn layout_of(e: Examined) -> Layout
 }
 
 // The answer without the layout.
-pub fn answer_of(e: Examined) -> Answer
+pub fn answer_of(e: Result<Examined, Refused>) -> Answer
     ensures { result ≡ answer_in e }
 {
-    match e {
-        Examined::Accepted(id, y, awaits, budget) => {
-            Answer::Accepted(id, y.blocks, awaits, budget)
-        }
-        Examined::Refused(r, id, budget) => Answer::Refused(r, id, budget),
-    }
+    let x = e?;
+    Ok(Accepted {
+        id: x.id,
+        blocks: x.layout.blocks,
+        awaits: x.awaits,
+        budget: x.budget,
+    })
 }
 
 // The answer without the layout, with the limits as they were given.
-pub fn answer_within(e: Examined, limits: Limits) -> AnswerWithin
+pub fn answer_within(e: Result<Examined, Refused>, limits: Limits) -> AnswerWithin
     ensures { result ≡ answer_within e limits }
 {
-    let a = answer_of(e);
-    AnswerWithin {
-        answer: a,
-        limits: limits,
-    }
+    let answer = answer_of(e);
+    AnswerWithin { answer, limits }
 }

@@ -1,5 +1,5 @@
 -- `finish` and `examine`: what their calls ask for, and what they do by what the calls do. Assumes nothing.
-use mathlib.Core.Path.{◌≡◌, refl, sym, ap, ap₂, subst, ◌∙◌}
+use mathlib.Core.Path.{◌≡◌, refl, sym, ap, subst, ◌∙◌}
 use mathlib.Core.Bool.{Bool}
 use mathlib.Core.List.{List, ◌++◌}
 use Prim.Native.Nat.{ℕ, ◌+◌, ◌-◌, ◌/◌, ◌^◌, ◌≤◌, ◌<◌}
@@ -10,8 +10,8 @@ use lib.Seq.{length-take-le}
 use Rattle.std.specs.Prelude.{Result, Ok, Err}
 use Rattle.budget.specs.declared.FlowBudget.{FlowBudget}
 use Rattle.budget.specs.declared.Limits.{Limits}
-use Rattle.format.specs.declared.refusal.Refusal.{Refusal}
 use Rattle.sizes.specs.declared.Layout.{Layout}
+use Rattle.sizes.specs.declared.Stopped.{Stopped}
 use Rattle.sheet.specs.declared.script.Script.{Script}
 use Rattle.sheet.specs.declared.script.Refused as sheets
 use Rattle.sheet.specs.Decode.{parts_of}
@@ -27,44 +27,39 @@ use Rattle.outcome.specs.Outcome.{lengths_with, after_checks, judged, outcome_of
 use Rattle.outcome.specs.Buffers.{padded, set_words, sets_after}
 use Rattle.demands.proofs.DemandLaws.{accepted_count}
 use Rattle.judge.specs.declared.Judged.{Judged}
-use Rattle.judge.specs.declared.Judged.TheVariants as judging
 use Rattle.judge.specs.Judge.{outcome_with, AcceptedWords, Judges}
 use Rattle.examine.specs.declared.Examined.{Examined}
-use Rattle.examine.specs.declared.Examined.TheVariants.{Accepted, Refused}
+use Rattle.examine.specs.declared.Refused.{Refused}
 use Rattle.examine.specs.Examine.{outcome_in, Listing, Examines}
-use Rattle.examine.specs.Stages.{zeros, cut_at, examined_by, Acceptable, Finishing, Finishes}
+use Rattle.examine.specs.Stages.{turned_away, zeros, cut_at, examined_by, Acceptable, Finishing, Finishes}
 use Rattle.sizes.specs.Sizes.{answer_words}
 use Rattle.examine.proofs.ContentLaws.{content}
 use Rattle.examine.proofs.ListingLaws.{listing}
 
--- ---- `accept`
+-- ---- `finish`
 
 -- the words of the answer are there
 pub answer-inside : (y : Layout) (awaits : ℕ) (v : List ℕ) → Acceptable y awaits v → answer_words y awaits ≤ length v
 answer-inside y awaits v h = omega (arith, h.room.fits, mul-le-mul_right (1 + y.words) h.few)
 
--- ---- `finish`
-
-module _ (id : ℕ) (j : Judged) (v : List ℕ) where
+module _ (id : ℕ) (r : Result Judged Stopped) (v : List ℕ) where
   -- the judging accepted
-  pub finishes_on : (y : Layout) (awaits : ℕ) (left : FlowBudget) (v' : List ℕ) (r : Examined) → j ≡ judging.Accepted y awaits left
-      → r ≡ Accepted id y awaits left → v' ≡ cut_at (answer_words y awaits) v → Finishes id j v v' r
-  finishes_on y awaits left v' r e er ev = record {
-    answer = er ∙ ap (examined_by id) (sym e);
-    kept = λ z n b q.
-        let a : z ≡ y = cc in
-        let d : n ≡ awaits = cc in
-        ev ∙ ap₂ (λ (u : Layout) (k : ℕ). cut_at (answer_words u k) v) (sym a) (sym d);
-    cleared = λ n b q. let o : ◌≡◌ {A = ℕ} 0 1 = cc in absurd (omega arith);
+  pub finishes_on : (j : Judged) (v' : List ℕ) → r ≡ Ok j → v' ≡ cut_at (answer_words j.layout j.awaits) v → Finishes id r v v' (examined_by id (Ok j))
+  finishes_on j v' e ev = record {
+    answer = ap (examined_by id) (sym e);
+    kept = λ k q.
+        let same : j ≡ k = cc in
+        ev ∙ ap (λ (z : Judged). cut_at (answer_words z.layout z.awaits) v) same;
+    cleared = λ k q. let o : ◌≡◌ {A = ℕ} 0 1 = cc in absurd (omega arith);
   }
 
   -- it refused
-  pub finishes_refused : (n : Refusal) (left : FlowBudget) (v' : List ℕ) (r : Examined) → j ≡ judging.Refused n left → r ≡ Refused n id left
-      → v' ≡ zeros v → Finishes id j v v' r
-  finishes_refused n left v' r e er ev = record {
-    answer = er ∙ ap (examined_by id) (sym e);
-    kept = λ z k b q. let o : ◌≡◌ {A = ℕ} 0 1 = cc in absurd (omega arith);
-    cleared = λ k b q. ev;
+  pub finishes_refused : (e : Stopped) (v' : List ℕ) (x : Result Examined Refused) → r ≡ Err e → x ≡ turned_away e.why id e.budget → v' ≡ zeros v
+      → Finishes id r v v' x
+  finishes_refused e v' x er ex ev = record {
+    answer = ex ∙ ap (examined_by id) (sym er);
+    kept = λ j q. let o : ◌≡◌ {A = ℕ} 0 1 = cc in absurd (omega arith);
+    cleared = λ k q. ev;
   }
 
 -- ---- `examine`
@@ -77,19 +72,19 @@ cut-padded l m k n le long e =
     (let q : length l - k ≡ n - length m = omega (arith, long, ap length e, length-take-le k l le) in q)
 
 -- both name the same answer
-outcome-same : (id : ℕ) (j : Judged) → outcome_in (examined_by id j) ≡ outcome_with id j
-outcome-same id (judging.Accepted y n b) = refl
-outcome-same id (judging.Refused r b) = refl
+outcome-same : (id : ℕ) (r : Result Judged Stopped) → outcome_in (examined_by id r) ≡ outcome_with id r
+outcome-same id (Ok j) = refl
+outcome-same id (Err e) = refl
 
 module _ (s : List ℕ) (parameter : ℕ → Bool) (l : Limits) (records : ℕ) (b : FlowBudget) (w v : List ℕ) (c : Result Script sheets.Refused) (checks : Checks s c) where
   -- the checks refuse
-  pub examines_refused : (e : sheets.Refused) (w' v' : List ℕ) (r : Examined) → c ≡ Err e → r ≡ Refused e.why e.id b
+  pub examines_refused : (e : sheets.Refused) (w' v' : List ℕ) (r : Result Examined Refused) → c ≡ Err e → r ≡ turned_away e.why e.id b
       → v' ≡ zeros v → Examines s parameter l records b w w' v v' r
   unfolding outcome_of
   examines_refused e w' v' r ec er ev = record {
     answer = ap outcome_in er ∙ ap (after_checks s parameter l (lengths_with w v records) b) (sym ec ∙ checks.answer);
-    sets = ev ∙ ap (λ (z : Examined). sets_after s parameter (lengths_with w v records) (outcome_in z)) (sym er);
-    listing = λ i y awaits z e. let o : ◌≡◌ {A = ℕ} 0 1 = cc in absurd (omega arith);
+    sets = ev ∙ ap (λ (z : Result Examined Refused). sets_after s parameter (lengths_with w v records) (outcome_in z)) (sym er);
+    listing = λ i q. let o : ◌≡◌ {A = ℕ} 0 1 = cc in absurd (omega arith);
   }
 
   -- they pass, and the script is judged
@@ -104,77 +99,78 @@ module _ (s : List ℕ) (parameter : ℕ → Bool) (l : Limits) (records : ℕ) 
     script-is : x ≡ script_of s
     script-is = (passed s x (sym checks.answer ∙ ec)).1
 
-    module _ (j : Judged) (w₁ v₁ : List ℕ) (h : Judges s parameter x l records b w w₁ v v₁ j) where
+    module _ (d : Result Judged Stopped) (w₁ v₁ : List ℕ) (h : Judges s parameter x l records b w w₁ v v₁ d) where
       -- it accepted
-      module _ (y : Layout) (awaits : ℕ) (left : FlowBudget) (e : j ≡ judging.Accepted y awaits left) where
-        holds : AcceptedWords s parameter x (record { sets = length v; records = records }) w₁ v₁ y
-        holds = h.accepts y awaits left e
+      module _ (j : Judged) (e : d ≡ Ok j) where
+        holds : AcceptedWords s parameter x (record { sets = length v; records = records }) w₁ v₁ j.layout
+        holds = h.accepts j e
 
-        count : awaits ≡ length (points (flow_code (parts_of s)) parameter y.words)
+        count : j.awaits ≡ length (points (flow_code (parts_of s)) parameter j.layout.words)
         count =
-            accepted_count s parameter l (lengths_with w v records) b x.id y.blocks awaits left
+            accepted_count s parameter l (lengths_with w v records) b x.id j.layout.blocks j.awaits j.budget
             (sym (h.answer ∙ judged-is) ∙ ap (outcome_with x.id) e)
             ∙ ap (λ (z : Script). length (points (flow_code (parts_of s)) parameter ((z.slots + 63) / 64))) (sym script-is)
             ∙ ap (λ (k : ℕ). length (points (flow_code (parts_of s)) parameter k)) (sym holds.words)
 
-        few : awaits ≤ y.awaits
-        few = omega (arith, count, points_few s parameter x sound_here y.words, holds.awaits)
+        few : j.awaits ≤ j.layout.awaits
+        few = omega (arith, count, points_few s parameter x sound_here j.layout.words, holds.awaits)
 
-        acceptable : Acceptable y awaits v₁
+        acceptable : Acceptable j.layout j.awaits v₁
         acceptable = record { room = holds.sets_room; few = few }
 
         -- the sets buffer begins with the answer
-        answer-there : ((i : ℕ) → get_or v₁ i 0 < 2 ^ 64) → take (answer_words y awaits) v₁ ≡ set_words s parameter (((parts_of s).slots + 63) / 64) y.blocks
+        answer-there : ((i : ℕ) → get_or v₁ i 0 < 2 ^ 64)
+            → take (answer_words j.layout j.awaits) v₁ ≡ set_words s parameter (((parts_of s).slots + 63) / 64) j.layout.blocks
         answer-there fit =
-            ap (λ (k : ℕ). take (answer_words y k) v₁) count
-            ∙ content (flow_code (parts_of s)) parameter y v₁ holds.sets_room fit
-            (points (flow_code (parts_of s)) parameter y.words) holds.finished.both holds.finished.facts
+            ap (λ (k : ℕ). take (answer_words j.layout k) v₁) count
+            ∙ content (flow_code (parts_of s)) parameter j.layout v₁ holds.sets_room fit
+            (points (flow_code (parts_of s)) parameter j.layout.words) holds.finished.both holds.finished.facts
             (omega (arith, few, count))
-            ∙ ap (λ (k : ℕ). set_words s parameter k y.blocks)
+            ∙ ap (λ (k : ℕ). set_words s parameter k j.layout.blocks)
             (holds.words ∙ ap (λ (k : ℕ). (k + 63) / 64) (sym sound_here.slots_are))
 
       -- what `finish` asks
-      pub finishing : Finishing j v₁
+      pub finishing : Finishing d v₁
       finishing = record { acceptable = acceptable }
 
-      module _ (fit : (i : ℕ) → get_or v₁ i 0 < 2 ^ 64) (long : length v₁ ≡ length v) (v₂ : List ℕ) (r : Examined)
-          (f : Finishes x.id j v₁ v₂ r) where
+      module _ (fit : (i : ℕ) → get_or v₁ i 0 < 2 ^ 64) (long : length v₁ ≡ length v) (v₂ : List ℕ) (r : Result Examined Refused)
+          (f : Finishes x.id d v₁ v₂ r) where
         answer-is : outcome_in r ≡ outcome_of s parameter l (lengths_with w v records) b
-        answer-is = ap outcome_in f.answer ∙ outcome-same x.id j ∙ h.answer ∙ judged-is
+        answer-is = ap outcome_in f.answer ∙ outcome-same x.id d ∙ h.answer ∙ judged-is
 
-        accepted-on : (y : Layout) (awaits : ℕ) (left : FlowBudget) → j ≡ judging.Accepted y awaits left → Examines s parameter l records b w w₁ v v₂ r
-        accepted-on y awaits left e =
-            let er : r ≡ Accepted x.id y awaits left = f.answer ∙ ap (examined_by x.id) e in
+        accepted-on : (j : Judged) → d ≡ Ok j → Examines s parameter l records b w w₁ v v₂ r
+        accepted-on j e =
+            let er : r ≡ examined_by x.id (Ok j) = f.answer ∙ ap (examined_by x.id) e in
             record {
               answer = answer-is;
-              sets = f.kept y awaits left e
-                  ∙ cut-padded v₁ (set_words s parameter (((parts_of s).slots + 63) / 64) y.blocks) (answer_words y awaits) (length v)
-                  (answer-inside y awaits v₁ (acceptable y awaits left e)) long (answer-there y awaits left e fit)
-                  ∙ ap (λ (z : Examined). sets_after s parameter (lengths_with w v records) (outcome_in z)) (sym er);
-              listing = λ id z n q p.
-                  let a : y ≡ z = cc in
-                  subst (Listing s records w₁) a (listing s parameter x _ w₁ v₁ y (holds y awaits left e));
+              sets = f.kept j e
+                  ∙ cut-padded v₁ (set_words s parameter (((parts_of s).slots + 63) / 64) j.layout.blocks) (answer_words j.layout j.awaits) (length v)
+                  (answer-inside j.layout j.awaits v₁ (acceptable j e)) long (answer-there j e fit)
+                  ∙ ap (λ (z : Result Examined Refused). sets_after s parameter (lengths_with w v records) (outcome_in z)) (sym er);
+              listing = λ z q.
+                  let same : ◌≡◌ {A = Examined} (record { id = x.id; layout = j.layout; awaits = j.awaits; budget = j.budget }) z = cc in
+                  subst (Listing s records w₁) (ap (λ (u : Examined). u.layout) same) (listing s parameter x _ w₁ v₁ j.layout (holds j e));
             }
 
-        refused-on : (q : Refusal) (left : FlowBudget) → j ≡ judging.Refused q left → Examines s parameter l records b w w₁ v v₂ r
-        refused-on q left e =
-            let er : r ≡ Refused q x.id left = f.answer ∙ ap (examined_by x.id) e in
+        refused-on : (e : Stopped) → d ≡ Err e → Examines s parameter l records b w w₁ v v₂ r
+        refused-on e q =
+            let er : r ≡ turned_away e.why x.id e.budget = f.answer ∙ ap (examined_by x.id) q in
             record {
               answer = answer-is;
-              sets = f.cleared q left e ∙ ap (λ (n : ℕ). replicate n 0) long
-                  ∙ ap (λ (z : Examined). sets_after s parameter (lengths_with w v records) (outcome_in z)) (sym er);
-              listing = λ id y n z p. let o : ◌≡◌ {A = ℕ} 0 1 = cc in absurd (omega arith);
+              sets = f.cleared e q ∙ ap (λ (n : ℕ). replicate n 0) long
+                  ∙ ap (λ (z : Result Examined Refused). sets_after s parameter (lengths_with w v records) (outcome_in z)) (sym er);
+              listing = λ i p. let o : ◌≡◌ {A = ℕ} 0 1 = cc in absurd (omega arith);
             }
 
         pub examines_on : Examines s parameter l records b w w₁ v v₂ r
-        examines_on = go j refl
+        examines_on = go d refl
           where
-            go : (i : Judged) → j ≡ i → Examines s parameter l records b w w₁ v v₂ r
-            go (judging.Accepted y awaits left) e = accepted-on y awaits left e
-            go (judging.Refused q left) e = refused-on q left e
+            go : (i : Result Judged Stopped) → d ≡ i → Examines s parameter l records b w w₁ v v₂ r
+            go (Ok j) e = accepted-on j e
+            go (Err e) q = refused-on e q
 
 -- the judging, with the limits as they count
-pub judges_counted : {s : List ℕ} {parameter : ℕ → Bool} {x : Script} {l k : Limits} {records : ℕ} {b : FlowBudget} {w w' v v' : List ℕ} {j : Judged}
+pub judges_counted : {s : List ℕ} {parameter : ℕ → Bool} {x : Script} {l k : Limits} {records : ℕ} {b : FlowBudget} {w w' v v' : List ℕ} {j : Result Judged Stopped}
     → k ≡ l → Judges s parameter x k records b w w' v v' j → Judges s parameter x l records b w w' v v' j
 judges_counted {s} {parameter} {x} {records = records} {b = b} {w = w} {w' = w'} {v = v} {v' = v'} {j = j} e h =
     subst (λ (z : Limits). Judges s parameter x z records b w w' v v' j) e h

@@ -1,5 +1,5 @@
 -- What `examine` answers and leaves: of the sheet, the set of parameters, the limits, the lengths of the buffers and the budget.
-use Rattle.std.specs.Prelude.{◌≡◌, Bool, List, ℕ, ◌≤◌, ◌<◌, length}
+use Rattle.std.specs.Prelude.{◌≡◌, Bool, List, ℕ, ◌≤◌, ◌<◌, length, Result, Ok, Err}
 use Rattle.budget.specs.declared.FlowBudget.{FlowBudget}
 use Rattle.budget.specs.declared.Limits.{Limits}
 use Rattle.sizes.specs.declared.Layout.{Layout}
@@ -10,12 +10,12 @@ use Rattle.outcome.specs.Outcome.{lengths_with, Outcome, accepted, refused, outc
 use Rattle.outcome.specs.Buffers.{block_record, sets_after}
 use Rattle.blocklist.specs.List.{record_in}
 use Rattle.examine.specs.declared.Examined.{Examined}
-use Rattle.examine.specs.declared.Examined.TheVariants.{Accepted, Refused}
+use Rattle.examine.specs.declared.Refused.{Refused}
 
 -- the answer
-abbrev pub outcome_in : Examined → Outcome
-outcome_in (Accepted id y awaits b) = accepted id y.blocks awaits b
-outcome_in (Refused r id b) = refused r id b
+abbrev pub outcome_in : Result Examined Refused → Outcome
+outcome_in (Ok x) = accepted x.id x.layout.blocks x.awaits x.budget
+outcome_in (Err e) = refused e.why e.id e.budget
 
 -- scratch holds the words of each block record, and so many records are lent
 pub record Listing (s : List ℕ) (records : ℕ) (w : List ℕ) (y : Layout) : Type 0 where
@@ -25,7 +25,7 @@ pub record Listing (s : List ℕ) (records : ℕ) (w : List ℕ) (y : Layout) : 
       → record_in (scratch y w) c ≡ block_record (flow_code (parts_of s)) c
 
 -- what `examine` does with the words w of scratch and v of the sets buffer
-pub record Examines (s : List ℕ) (parameter : ℕ → Bool) (l : Limits) (records : ℕ) (b : FlowBudget) (w w' v v' : List ℕ) (r : Examined) : Type 0 where
+pub record Examines (s : List ℕ) (parameter : ℕ → Bool) (l : Limits) (records : ℕ) (b : FlowBudget) (w w' v v' : List ℕ) (r : Result Examined Refused) : Type 0 where
   pub answer : outcome_in r ≡ outcome_of s parameter l (lengths_with w v records) b
   pub sets : v' ≡ sets_after s parameter (lengths_with w v records) (outcome_in r)
-  pub listing : (id : ℕ) (y : Layout) (awaits : ℕ) (left : FlowBudget) → r ≡ Accepted id y awaits left → Listing s records w' y
+  pub listing : (x : Examined) → r ≡ Ok x → Listing s records w' x.layout

@@ -8,20 +8,29 @@ ghost use Rattle.budget.specs.Budget.{counted};
 ghost use Rattle.sheet.specs.Decode.{parts_of};
 ghost use Rattle.starts.specs.Starts.{parameter_with};
 ghost use Rattle.examine.specs.Examine.{Examines};
-ghost use Rattle.examine.specs.Stages.{PassedAs, zeros, cut_at, Acceptable, Finishing, Finishes};
-ghost use Rattle.sizes.specs.Sizes.{answer_words};
+ghost use Rattle.examine.specs.Stages.{PassedAs, turned_away, zeros, Finishing, Finishes};
 
 use budget::{FlowBudget, Limits};
 use format::refusal::Refusal;
 use judge::Judged;
 use sheet::script::Script;
-use sizes::Layout;
+use sizes::{Layout, Stopped};
 
-// Accepted with the function's id, the layout of scratch, how many awaits are reached, and the budget; or refused with the id and the budget.
-#[derive(Clone, Copy)]
-pub enum Examined {
-    Accepted(u32, Layout, usize, FlowBudget),
-    Refused(Refusal, u32, FlowBudget),
+// A sheet that is accepted: the function's id, the layout of scratch, how many awaits are reached, and the budget as charged.
+#[derive(Clone, Copy, PartialEq, Eq, Debug)]
+pub struct Examined {
+    pub id: u32,
+    pub layout: Layout,
+    pub awaits: usize,
+    pub budget: FlowBudget,
+}
+
+// Why a sheet is refused, with the function's id, and the budget as charged.
+#[derive(Clone, Copy, PartialEq, Eq, Debug)]
+pub struct Refused {
+    pub why: Refusal,
+    pub id: u32,
+    pub budget: FlowBudget,
 }
 
 // The sheet checks, then the judging, with the slots of `added` as parameters beside the sheet's own (words that it lacks count as zero, and what is
@@ -35,7 +44,7 @@ pub fn examine(
     s: &mut [u64],
     t: &mut [u64],
     records: usize,
-) -> Examined
+) -> Result<Examined, Refused>
     ensures { Examines sheet.now (parameter_with (parts_of sheet.now) added.now) (counted limits) records budget s.old s.new t.old t.new result }
 {
     match sheet::check(sheet) {
@@ -54,7 +63,7 @@ pub fn passed(
     s: &mut [u64],
     t: &mut [u64],
     records: usize,
-) -> Examined
+) -> Result<Examined, Refused>
     requires { PassedAs sheet.now script }
     ensures { Examines sheet.now (parameter_with (parts_of sheet.now) added.now) (counted limits) records budget s.old s.new t.old t.new result }
 {
@@ -63,30 +72,29 @@ pub fn passed(
     finish(t, script.id, j)
 }
 
-// The answer of the judging, and the sets buffer as it asks.
-fn finish(t: &mut [u64], id: u32, j: Judged) -> Examined
+// The answer of the judging, and the sets buffer as it asks: what lies past the answer is cleared.
+fn finish(t: &mut [u64], id: u32, j: Result<Judged, Stopped>) -> Result<Examined, Refused>
     requires { Finishing j t.old }
     ensures { Finishes id j t.old t.new result }
 {
     match j {
-        Judged::Accepted(y, awaits, left) => accept(t, id, y, awaits, left),
-        Judged::Refused(r, left) => refuse(t, r, id, left),
+        Err(e) => refuse(t, e.why, id, e.budget),
+        Ok(judged) => {
+            clear::clear_from(t, judged.layout.answer_words(judged.awaits));
+            Ok(Examined {
+                id,
+                layout: judged.layout,
+                awaits: judged.awaits,
+                budget: judged.budget,
+            })
+        }
     }
 }
 
-// What lies past the answer is cleared.
-fn accept(t: &mut [u64], id: u32, y: Layout, awaits: usize, left: FlowBudget) -> Examined
-    requires { Acceptable y awaits t.old }
-    ensures { (result ≡ Examined.Accepted id y awaits left) × (t.new ≡ cut_at (answer_words y awaits) t.old) }
-{
-    clear::clear_from(t, y.answer_words(awaits));
-    Examined::Accepted(id, y, awaits, left)
-}
-
 // A refusal; the sets buffer is cleared.
-pub fn refuse(t: &mut [u64], r: Refusal, id: u32, left: FlowBudget) -> Examined
-    ensures { (result ≡ Examined.Refused r id left) × (t.new ≡ zeros t.old) }
+pub fn refuse(t: &mut [u64], why: Refusal, id: u32, budget: FlowBudget) -> Result<Examined, Refused>
+    ensures { (result ≡ turned_away why id budget) × (t.new ≡ zeros t.old) }
 {
     clear::clear(t);
-    Examined::Refused(r, id, left)
+    Err(Refused { why, id, budget })
 }

@@ -4,6 +4,7 @@ use mathlib.Core.List.{List, ◌++◌, append_assoc}
 use Prim.Native.Nat.{ℕ, ◌+◌, ◌*◌, ◌-◌, ◌/◌, ◌%◌, ◌≤◌}
 use native.Mathlib.Omega.{arith}
 use lib.ListN.{length, replicate, replicate-append-replicate}
+use Rattle.std.specs.Prelude.{Result, Ok, Err}
 use Rattle.dataflow.specs.Lists.{range}
 use Rattle.budget.specs.declared.FlowBudget.{FlowBudget}
 use Rattle.budget.specs.declared.Limits.{Limits}
@@ -19,12 +20,11 @@ use Rattle.blocklist.specs.List.{list_words}
 use Rattle.blocklist.proofs.ListLaws.{list_is}
 use Rattle.examine.specs.Examine.{outcome_in, Listing, Examines}
 use Rattle.examine.specs.declared.Examined.{Examined}
-use Rattle.examine.specs.declared.Examined.TheVariants.{Accepted, Refused}
+use Rattle.examine.specs.declared.Refused.{Refused}
 use Rattle.added.specs.Examine.{ExaminesWith}
 use Rattle.added.proofs.WithLaws.{verified-with}
-use Rattle.answers.specs.declared.Answer.{Answer}
 use Rattle.answers.specs.declared.AnswerWithin.{AnswerWithin}
-use Rattle.answers.specs.Answers.{outcome_by, answer_in, answer_within, layout_in}
+use Rattle.answers.specs.Answers.{Answer, outcome_by, answer_in, answer_within, layout_in}
 use Rattle.answers.proofs.AnswerLaws.{own-slots, same_outcome, verified}
 use Rattle.answers.proofs.LimitLaws.{counted-above}
 use Rattle.flow.specs.Verify.{lengths_of, WordsVerified}
@@ -44,21 +44,21 @@ whole : (n : ℕ) → n ≡ 6 * (n / 6) + n % 6
 whole n = omega arith
 
 -- the list that is filled from scratch
-module _ (s list v w w₁ : List ℕ) (e : Examined)
-    (listing : (id : ℕ) (y : Layout) (awaits : ℕ) (left : FlowBudget) → e ≡ Accepted id y awaits left → Listing s (length list / 6) w₁ y) where
-  pub list_listed : (f : Examined) → e ≡ f → list_words (scratch (layout_in f) w₁) (layout_in f).blocks (length list)
+module _ (s list v w w₁ : List ℕ) (e : Result Examined Refused)
+    (listing : (x : Examined) → e ≡ Ok x → Listing s (length list / 6) w₁ x.layout) where
+  pub list_listed : (f : Result Examined Refused) → e ≡ f → list_words (scratch (layout_in f) w₁) (layout_in f).blocks (length list)
       ≡ list_after s (lengths_of list v w) (outcome_in f) ++ replicate (length list % 6) 0
-  list_listed (Refused r id left) q =
-      list_is (scratch (layout_in (Refused r id left)) w₁) (block_record (flow_code (parts_of s))) (λ c. refl) 0 (length list)
+  list_listed (Err z) q =
+      list_is (scratch (layout_in (Err z)) w₁) (block_record (flow_code (parts_of s))) (λ c. refl) 0 (length list)
       (λ c lt. absurd (omega arith)) (omega arith)
       ∙ ap (λ (k : ℕ). replicate {A = ℕ} k 0) (let z : length list - 0 ≡ 6 * (length list / 6) + length list % 6 = omega arith in z)
       ∙ sym (replicate-append-replicate (6 * (length list / 6)) (length list % 6) 0)
-  list_listed (Accepted id y awaits left) q =
-      let g : Listing s (length list / 6) w₁ y = listing id y awaits left q in
+  list_listed (Ok x) q =
+      let g : Listing s (length list / 6) w₁ x.layout = listing x q in
       let f : ℕ → List ℕ = block_record (flow_code (parts_of s)) in
-      list_is (scratch y w₁) f (λ c. refl) y.blocks (length list) g.record_is (omega (arith, g.lent))
-      ∙ ap (λ (k : ℕ). padded k (joined f (range 0 y.blocks))) (whole (length list))
-      ∙ padded-more (joined f (range 0 y.blocks)) (6 * (length list / 6)) (length list % 6) (omega (arith, joined-range f 6 (λ c. refl) y.blocks, g.lent))
+      list_is (scratch x.layout w₁) f (λ c. refl) x.layout.blocks (length list) g.record_is (omega (arith, g.lent))
+      ∙ ap (λ (k : ℕ). padded k (joined f (range 0 x.layout.blocks))) (whole (length list))
+      ∙ padded-more (joined f (range 0 x.layout.blocks)) (6 * (length list / 6)) (length list % 6) (omega (arith, joined-range f 6 (λ c. refl) x.layout.blocks, g.lent))
 
   pub list_left : (list' : List ℕ) (a : Answer) (y : Layout) → y ≡ layout_in e → list' ≡ list_words (scratch y w₁) y.blocks (length list) → a ≡ answer_in e
       → list' ≡ list_after s (lengths_of list v w) (outcome_by a) ++ replicate (length list % 6) 0
@@ -67,7 +67,7 @@ module _ (s list v w w₁ : List ℕ) (e : Examined)
       ∙ ap (λ (p : Outcome). list_after s (lengths_of list v w) p ++ replicate (length list % 6) 0) (sym (ap outcome_by is ∙ same_outcome e))
 
 -- under any limits, as they count
-module _ (s : List ℕ) (l : Limits) (b : FlowBudget) (list v w w₁ v' : List ℕ) (e : Examined)
+module _ (s : List ℕ) (l : Limits) (b : FlowBudget) (list v w w₁ v' : List ℕ) (e : Result Examined Refused)
     (h : Examines s (parameter_in (parts_of s)) l (length list / 6) b w w₁ v v' e) where
   pub words_under : (list' w' : List ℕ) (r : Answer) (y : Layout) → y ≡ layout_in e → list' ≡ list_words (scratch y w₁) y.blocks (length list)
       → w' ≡ replicate (length w₁) 0 → length w₁ ≡ length w → r ≡ answer_in e → WordsVerifiedUnder s l b list list' v v' w w' r
@@ -77,13 +77,13 @@ module _ (s : List ℕ) (l : Limits) (b : FlowBudget) (list v w w₁ v' : List �
   }
 
 -- with today's
-module _ (s : List ℕ) (b : FlowBudget) (list v w w₁ v' : List ℕ) (e : Examined)
+module _ (s : List ℕ) (b : FlowBudget) (list v w w₁ v' : List ℕ) (e : Result Examined Refused)
     (h : Examines s (parameter_in (parts_of s)) todays (length list / 6) b w w₁ v v' e) where
   abbrev n : Lengths
   n = lengths_of list v w
 
   -- the list that is filled from scratch
-  pub list_after_lem : (f : Examined) → e ≡ f → list_words (scratch (layout_in f) w₁) (layout_in f).blocks (length list)
+  pub list_after_lem : (f : Result Examined Refused) → e ≡ f → list_words (scratch (layout_in f) w₁) (layout_in f).blocks (length list)
       ≡ list_after s n (outcome_in f) ++ replicate (length list % 6) 0
   list_after_lem = list_listed s list v w w₁ e h.listing
 
@@ -96,7 +96,7 @@ module _ (s : List ℕ) (b : FlowBudget) (list v w w₁ v' : List ℕ) (e : Exam
   }
 
 -- with the limits as they were given
-module _ (s : List ℕ) (l : Limits) (b : FlowBudget) (list v w w₁ v' : List ℕ) (e : Examined)
+module _ (s : List ℕ) (l : Limits) (b : FlowBudget) (list v w w₁ v' : List ℕ) (e : Result Examined Refused)
     (h : Examines s (parameter_in (parts_of s)) (counted l) (length list / 6) b w w₁ v v' e) where
   pub words_within : (list' w' : List ℕ) (r : AnswerWithin) (y : Layout) → y ≡ layout_in e → list' ≡ list_words (scratch y w₁) y.blocks (length list)
       → w' ≡ replicate (length w₁) 0 → length w₁ ≡ length w → r ≡ answer_within e l → WordsVerifiedWithin s l b list list' v v' w w' r
@@ -106,7 +106,7 @@ module _ (s : List ℕ) (l : Limits) (b : FlowBudget) (list v w w₁ v' : List �
   }
 
 -- with an added set
-module _ (s added : List ℕ) (l : Limits) (b : FlowBudget) (list v w w₁ v' : List ℕ) (e : Examined)
+module _ (s added : List ℕ) (l : Limits) (b : FlowBudget) (list v w w₁ v' : List ℕ) (e : Result Examined Refused)
     (h : ExaminesWith s added (counted l) (length list / 6) b w w₁ v v' e) where
   pub words_with : (list' w' : List ℕ) (r : AnswerWithin) (y : Layout) → y ≡ layout_in e → list' ≡ list_words (scratch y w₁) y.blocks (length list)
       → w' ≡ replicate (length w₁) 0 → length w₁ ≡ length w → r ≡ answer_within e l → WordsVerifiedWith s added l b list list' v v' w w' r

@@ -6,8 +6,7 @@ use Rattle.sheet.specs.Decode.{parts_of}
 use Rattle.script.specs.Script.{parameter_in}
 use Rattle.outcome.specs.Outcome.{Lengths, lengths_with}
 use Rattle.outcome.specs.Buffers.{list_after}
-use Rattle.answers.specs.declared.Answer.{Answer}
-use Rattle.answers.specs.Answers.{outcome_by, Verified}
+use Rattle.answers.specs.Answers.{Answer, outcome_by, Verified}
 
 -- how long the lent buffers are: six words a block record
 abbrev pub lengths_of : List ℕ → List ℕ → List ℕ → Lengths

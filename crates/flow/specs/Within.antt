@@ -6,9 +6,8 @@ use Rattle.budget.specs.Budget.{counted}
 use Rattle.sheet.specs.Decode.{parts_of}
 use Rattle.script.specs.Script.{parameter_in}
 use Rattle.outcome.specs.Buffers.{list_after}
-use Rattle.answers.specs.declared.Answer.{Answer}
 use Rattle.answers.specs.declared.AnswerWithin.{AnswerWithin}
-use Rattle.answers.specs.Answers.{outcome_by, Verified}
+use Rattle.answers.specs.Answers.{Answer, outcome_by, Verified}
 use Rattle.flow.specs.Verify.{lengths_of}
 
 -- What `WordsVerified` says, under the limits l as they count in the place of today's.

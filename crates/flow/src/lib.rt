@@ -9,7 +9,7 @@ ghost use Rattle.flow.specs.With.{WordsVerifiedWith};
 
 use answers::{Answer, AnswerWithin};
 use budget::{FlowBudget, Limits};
-use examine::{Examined, clear};
+use examine::{Examined, Refused, clear};
 
 // Any bytes, any budget, any buffers. `blocks` takes six words a block record: start, end, reachable, successor count, two successors; `sets` takes
 // both sets of each block and the set of each reached await; `scratch` is zero at the end. After a refusal all three are zero.
@@ -71,7 +71,7 @@ pub fn verify_with(
 }
 
 // The answer with the limits as they were given; scratch is cleared.
-fn finish(s: &mut [u64], e: Examined, limits: Limits) -> AnswerWithin
+fn finish(s: &mut [u64], e: Result<Examined, Refused>, limits: Limits) -> AnswerWithin
     ensures { (result ≡ answer_within e limits) × (s.new ≡ replicate (length s.old) 0) }
 {
     clear::clear(s);

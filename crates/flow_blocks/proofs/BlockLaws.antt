@@ -4,6 +4,7 @@ use mathlib.Core.List.{List, [], ◌∷◌, ◌++◌}
 use Prim.Native.Nat.{ℕ, suc, ◌+◌, ◌-◌, ◌^◌, ◌%◌, ◌≤◌, ◌<◌}
 use native.Mathlib.Omega.{arith}
 use lib.ListN.{length, get_or, replicate}
+use Rattle.std.specs.Prelude.{Result, Ok, Err}
 use Rattle.dataflow.specs.Lists.{tabulate, flag}
 use Rattle.dataflow.proofs.Lists.{tabulate_among, tabulate_same, tabulate_append}
 use Rattle.dataflow.specs.Code.{leaders, block_successors}
@@ -29,13 +30,12 @@ use Rattle.block_records.specs.Blocks.{zero_block, block_of}
 use Rattle.block_records.proofs.RecordLaws.{listed_in, listed_behind}
 use Rattle.examine.specs.Examine.{outcome_in, Listing, Examines}
 use Rattle.examine.specs.declared.Examined.{Examined}
-use Rattle.examine.specs.declared.Examined.TheVariants.{Accepted, Refused}
+use Rattle.examine.specs.declared.Refused.{Refused}
 use Rattle.added.specs.Examine.{ExaminesWith}
 use Rattle.added.proofs.OutcomeLaws.{accepted_with_sound}
 use Rattle.added.proofs.WithLaws.{verified-with}
-use Rattle.answers.specs.declared.Answer.{Answer}
 use Rattle.answers.specs.declared.AnswerWithin.{AnswerWithin}
-use Rattle.answers.specs.Answers.{outcome_by, answer_in, answer_within, layout_in}
+use Rattle.answers.specs.Answers.{Answer, outcome_by, answer_in, answer_within, layout_in}
 use Rattle.answers.proofs.AnswerLaws.{own-slots, same_outcome, verified}
 use Rattle.answers.proofs.LimitLaws.{counted-above}
 use Rattle.flow_blocks.specs.BlocksVerify.{sheet_block, blocks_after, lengths_of, BlocksVerified}
@@ -93,17 +93,17 @@ block-is s x ok m c e =
 -- ---- the call
 
 -- the list that is filled from scratch
-module _ (s : List ℕ) (list : List Block) (v w w₁ : List ℕ) (e : Examined)
-    (listing : (id : ℕ) (y : Layout) (awaits : ℕ) (left : FlowBudget) → e ≡ Accepted id y awaits left → Listing s (length list) w₁ y)
-    (sound : (id : ℕ) (y : Layout) (awaits : ℕ) (left : FlowBudget) → e ≡ Accepted id y awaits left → Sound s (script_of s)) where
-  list_listed : (f : Examined) → e ≡ f → tabulate 0 (length list) (listed_block (scratch (layout_in f) w₁) (layout_in f).blocks) ≡ blocks_after s (lengths_of list v w) (outcome_in f)
-  list_listed (Refused r id left) q =
-      blocks_then_zeros (scratch (layout_in (Refused r id left)) w₁) (sheet_block s) 0 (λ c lt. absurd (omega arith)) (length list) (omega arith)
+module _ (s : List ℕ) (list : List Block) (v w w₁ : List ℕ) (e : Result Examined Refused)
+    (listing : (x : Examined) → e ≡ Ok x → Listing s (length list) w₁ x.layout)
+    (sound : (x : Examined) → e ≡ Ok x → Sound s (script_of s)) where
+  list_listed : (f : Result Examined Refused) → e ≡ f → tabulate 0 (length list) (listed_block (scratch (layout_in f) w₁) (layout_in f).blocks) ≡ blocks_after s (lengths_of list v w) (outcome_in f)
+  list_listed (Err z) q =
+      blocks_then_zeros (scratch (layout_in (Err z)) w₁) (sheet_block s) 0 (λ c lt. absurd (omega arith)) (length list) (omega arith)
       ∙ ap (λ (k : ℕ). replicate k zero_block) (let z : length list - 0 ≡ length list = omega arith in z)
-  list_listed (Accepted id y awaits left) q =
-      let g : Listing s (length list) w₁ y = listing id y awaits left q in
-      blocks_then_zeros (scratch y w₁) (sheet_block s) y.blocks
-      (λ c lt. block-is s (script_of s) (sound id y awaits left q) (scratch y w₁) c (g.record_is c lt)) (length list) g.lent
+  list_listed (Ok x) q =
+      let g : Listing s (length list) w₁ x.layout = listing x q in
+      blocks_then_zeros (scratch x.layout w₁) (sheet_block s) x.layout.blocks
+      (λ c lt. block-is s (script_of s) (sound x q) (scratch x.layout w₁) c (g.record_is c lt)) (length list) g.lent
 
   list_left : (list' : List Block) (a : Answer) (y : Layout) → y ≡ layout_in e → list' ≡ tabulate 0 (length list) (listed_block (scratch y w₁) y.blocks)
       → a ≡ answer_in e → list' ≡ blocks_after s (lengths_of list v w) (outcome_by a)
@@ -112,11 +112,11 @@ module _ (s : List ℕ) (list : List Block) (v w w₁ : List ℕ) (e : Examined)
       ∙ ap (blocks_after s (lengths_of list v w)) (sym (ap outcome_by is ∙ same_outcome e))
 
 -- under any limits, as they count
-module _ (s : List ℕ) (l : Limits) (b : FlowBudget) (list : List Block) (v w w₁ v' : List ℕ) (e : Examined)
+module _ (s : List ℕ) (l : Limits) (b : FlowBudget) (list : List Block) (v w w₁ v' : List ℕ) (e : Result Examined Refused)
     (h : Examines s (parameter_in (parts_of s)) l (length list) b w w₁ v v' e) where
-  sound_here : (id : ℕ) (y : Layout) (awaits : ℕ) (left : FlowBudget) → e ≡ Accepted id y awaits left → Sound s (script_of s)
-  sound_here id y awaits left q =
-      accepted_sound s (parameter_in (parts_of s)) l (lengths_of list v w) b id y.blocks awaits left (sym h.answer ∙ ap outcome_in q)
+  sound_here : (x : Examined) → e ≡ Ok x → Sound s (script_of s)
+  sound_here x q =
+      accepted_sound s (parameter_in (parts_of s)) l (lengths_of list v w) b x.id x.layout.blocks x.awaits x.budget (sym h.answer ∙ ap outcome_in q)
 
   pub blocks_under : (list' : List Block) (w' : List ℕ) (r : Answer) (y : Layout) → y ≡ layout_in e
       → list' ≡ tabulate 0 (length list) (listed_block (scratch y w₁) y.blocks) → (r ≡ answer_in e) × (w' ≡ replicate (length w₁) 0)
@@ -127,13 +127,13 @@ module _ (s : List ℕ) (l : Limits) (b : FlowBudget) (list : List Block) (v w w
   }
 
 -- with today's
-module _ (s : List ℕ) (b : FlowBudget) (list : List Block) (v w w₁ v' : List ℕ) (e : Examined)
+module _ (s : List ℕ) (b : FlowBudget) (list : List Block) (v w w₁ v' : List ℕ) (e : Result Examined Refused)
     (h : Examines s (parameter_in (parts_of s)) todays (length list) b w w₁ v v' e) where
   abbrev n : Lengths
   n = lengths_of list v w
 
   -- the list that is filled from scratch
-  list_after_lem : (f : Examined) → e ≡ f → tabulate 0 (length list) (listed_block (scratch (layout_in f) w₁) (layout_in f).blocks) ≡ blocks_after s n (outcome_in f)
+  list_after_lem : (f : Result Examined Refused) → e ≡ f → tabulate 0 (length list) (listed_block (scratch (layout_in f) w₁) (layout_in f).blocks) ≡ blocks_after s n (outcome_in f)
   list_after_lem = list_listed s list v w w₁ e h.listing (sound_here s todays b list v w w₁ v' e h)
 
   pub blocks_verified : (list' : List Block) (w' : List ℕ) (r : Answer) (y : Layout) → y ≡ layout_in e
@@ -146,7 +146,7 @@ module _ (s : List ℕ) (b : FlowBudget) (list : List Block) (v w w₁ v' : List
   }
 
 -- with the limits as they were given
-module _ (s : List ℕ) (l : Limits) (b : FlowBudget) (list : List Block) (v w w₁ v' : List ℕ) (e : Examined)
+module _ (s : List ℕ) (l : Limits) (b : FlowBudget) (list : List Block) (v w w₁ v' : List ℕ) (e : Result Examined Refused)
     (h : Examines s (parameter_in (parts_of s)) (counted l) (length list) b w w₁ v v' e) where
   pub blocks_within : (list' : List Block) (w' : List ℕ) (r : AnswerWithin) (y : Layout) → y ≡ layout_in e
       → list' ≡ tabulate 0 (length list) (listed_block (scratch y w₁) y.blocks) → (r ≡ answer_within e l) × (w' ≡ replicate (length w₁) 0)
@@ -157,11 +157,11 @@ module _ (s : List ℕ) (l : Limits) (b : FlowBudget) (list : List Block) (v w w
   }
 
 -- with an added set
-module _ (s added : List ℕ) (l : Limits) (b : FlowBudget) (list : List Block) (v w w₁ v' : List ℕ) (e : Examined)
+module _ (s added : List ℕ) (l : Limits) (b : FlowBudget) (list : List Block) (v w w₁ v' : List ℕ) (e : Result Examined Refused)
     (h : ExaminesWith s added (counted l) (length list) b w w₁ v v' e) where
-  sound-with : (id : ℕ) (y : Layout) (awaits : ℕ) (left : FlowBudget) → e ≡ Accepted id y awaits left → Sound s (script_of s)
-  sound-with id y awaits left q =
-      accepted_with_sound s added (counted l) (lengths_of list v w) b id y.blocks awaits left (sym h.answer ∙ ap outcome_in q)
+  sound-with : (x : Examined) → e ≡ Ok x → Sound s (script_of s)
+  sound-with x q =
+      accepted_with_sound s added (counted l) (lengths_of list v w) b x.id x.layout.blocks x.awaits x.budget (sym h.answer ∙ ap outcome_in q)
 
   pub blocks_with : (list' : List Block) (w' : List ℕ) (r : AnswerWithin) (y : Layout) → y ≡ layout_in e
       → list' ≡ tabulate 0 (length list) (listed_block (scratch y w₁) y.blocks) → (r ≡ answer_within e l) × (w' ≡ replicate (length w₁) 0)

@@ -9,8 +9,7 @@ use Rattle.outcome.specs.Outcome.{Lengths, lengths_with, Outcome, accepted, refu
 use Rattle.outcome.specs.Buffers.{block_record}
 use Rattle.block_records.specs.declared.Block.{Block}
 use Rattle.block_records.specs.Blocks.{block_of, zero_block}
-use Rattle.answers.specs.declared.Answer.{Answer}
-use Rattle.answers.specs.Answers.{outcome_by, Verified}
+use Rattle.answers.specs.Answers.{Answer, outcome_by, Verified}
 
 module _ (s : List ℕ) where
   -- block c of the sheet

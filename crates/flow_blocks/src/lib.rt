@@ -10,7 +10,7 @@ ghost use Rattle.flow_blocks.specs.With.{BlocksVerifiedWith};
 use answers::{Answer, AnswerWithin};
 use block_records::Block;
 use budget::{FlowBudget, Limits};
-use examine::{Examined, clear};
+use examine::{Examined, Refused, clear};
 
 // Any bytes, any budget, any buffers. `blocks` takes the block records; `sets` takes both sets of each block and the set of each reached await;
 // `scratch` is zero at the end. After a refusal all three are zero.
@@ -30,7 +30,7 @@ pub fn verify(
 }
 
 // The answer; scratch is cleared.
-fn finish(s: &mut [u64], e: Examined) -> Answer
+fn finish(s: &mut [u64], e: Result<Examined, Refused>) -> Answer
     ensures { (result ≡ answer_in e) × (s.new ≡ replicate (length s.old) 0) }
 {
     clear::clear(s);
@@ -74,7 +74,7 @@ pub fn verify_with(
 }
 
 // The answer with the limits as they were given; scratch is cleared.
-fn finish_within(s: &mut [u64], e: Examined, limits: Limits) -> AnswerWithin
+fn finish_within(s: &mut [u64], e: Result<Examined, Refused>, limits: Limits) -> AnswerWithin
     ensures { (result ≡ answer_within e limits) × (s.new ≡ replicate (length s.old) 0) }
 {
     clear::clear(s);

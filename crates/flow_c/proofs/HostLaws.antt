@@ -34,9 +34,8 @@ use Rattle.sheet.specs.Decode.{parts_of}
 use Rattle.script.specs.Script.{parameter_in}
 use Rattle.block_records.specs.declared.Block.{Block}
 use Rattle.added.specs.Outcome.{VerifiedWith}
-use Rattle.answers.specs.declared.Answer.{Answer}
 use Rattle.answers.specs.declared.AnswerWithin.{AnswerWithin}
-use Rattle.answers.specs.Answers.{outcome_by, Verified}
+use Rattle.answers.specs.Answers.{Answer, outcome_by, Verified}
 use Rattle.flow_blocks.specs.BlocksVerify.{blocks_after, lengths_of, BlocksVerified}
 use Rattle.flow_blocks.specs.Within.{BlocksVerifiedUnder, BlocksVerifiedWithin}
 use Rattle.flow_blocks.specs.With.{BlocksVerifiedWith}

@@ -2,14 +2,16 @@
 #![tactic(auto)]
 
 ghost use Rattle.std.specs.Prelude.{◌≡◌};
+ghost use Rattle.format.specs.Refusals.{number_of};
 ghost use Rattle.answers.specs.Answers.{outcome_by};
 ghost use Rattle.flow_c.specs.Exports.{budget_of, answer_of, HostVerified, load_answer_of, host_load};
-ghost use Rattle.flow_c.specs.Within.{limits_of, answer_within_of, HostVerifiedWithin};
+ghost use Rattle.flow_c.specs.Within.{limits_of, host_limits_of, answer_within_of, HostVerifiedWithin};
 ghost use Rattle.flow_c.specs.With.{HostVerifiedWith};
 
 use answers::{Answer, AnswerWithin};
 use block_records::Block;
 use budget::{FlowBudget, Limits};
+use format::refusal::Refusal;
 use load::Loaded;
 use sheet::script::Refused;
 
@@ -19,6 +21,20 @@ use sheet::script::Refused;
 pub struct HostBudget {
     pub work: u64,
     pub retained: u64,
+}
+
+impl From<HostBudget> for FlowBudget {
+    ghost use Rattle.std.specs.Prelude.{◌≡◌};
+    ghost use Rattle.flow_c.specs.Exports.{budget_of};
+
+    ghost from_gives = { λ host budget. budget ≡ budget_of host };
+
+    fn from(host: HostBudget) -> FlowBudget {
+        FlowBudget {
+            work: host.work,
+            retained: host.retained,
+        }
+    }
 }
 
 // Number 0: accepted, with how many blocks there are and how many awaits are reached. Else the number of the refusal, and zeros for these.
@@ -33,6 +49,42 @@ pub struct FlowAnswer {
     pub retained: u64,
 }
 
+impl From<Answer> for FlowAnswer {
+    ghost use Rattle.std.specs.Prelude.{◌≡◌};
+    ghost use Rattle.answers.specs.Answers.{outcome_by};
+    ghost use Rattle.flow_c.specs.Exports.{answer_of};
+
+    ghost from_gives = { λ answer host. host ≡ answer_of (outcome_by answer) };
+
+    fn from(answer: Answer) -> FlowAnswer {
+        match answer {
+            Ok(accepted) => FlowAnswer {
+                number: 0,
+                function: accepted.id,
+                blocks: accepted.blocks as u64,
+                awaits: accepted.awaits as u64,
+                work: accepted.budget.work,
+                retained: accepted.budget.retained,
+            },
+            Err(refused) => FlowAnswer {
+                number: number(refused.why),
+                function: refused.id,
+                blocks: 0,
+                awaits: 0,
+                work: refused.budget.work,
+                retained: refused.budget.retained,
+            },
+        }
+    }
+}
+
+// The number of a refusal, as hosts have it.
+fn number(why: Refusal) -> u32
+    ensures { result ≡ number_of why }
+{
+    why.number() as u32
+}
+
 // Any bytes, any budget, any buffers: as `verify` of crate flow_blocks.
 #[unsafe(no_mangle)]
 pub extern "C" fn kagari_flow_verify(
@@ -44,41 +96,7 @@ pub extern "C" fn kagari_flow_verify(
 ) -> FlowAnswer
     ensures { HostVerified sheet.now (budget_of budget) blocks.old blocks.new sets.old sets.new scratch.old scratch.new result }
 {
-    let b = budget_of(budget);
-    let a = flow_blocks::verify(sheet, b, blocks, sets, scratch);
-    answer_of(a)
-}
-
-fn budget_of(b: HostBudget) -> FlowBudget
-    ensures { result ≡ budget_of b }
-{
-    FlowBudget {
-        work: b.work,
-        retained: b.retained,
-    }
-}
-
-fn answer_of(a: Answer) -> FlowAnswer
-    ensures { result ≡ answer_of (outcome_by a) }
-{
-    match a {
-        Answer::Accepted(id, blocks, awaits, b) => FlowAnswer {
-            number: 0,
-            function: id,
-            blocks: blocks as u64,
-            awaits: awaits as u64,
-            work: b.work,
-            retained: b.retained,
-        },
-        Answer::Refused(r, id, b) => FlowAnswer {
-            number: r.number() as u32,
-            function: id,
-            blocks: 0,
-            awaits: 0,
-            work: b.work,
-            retained: b.retained,
-        },
-    }
+    flow_blocks::verify(sheet, budget.into(), blocks, sets, scratch).into()
 }
 
 // Number 0 and the load. Else the number of the refusal, and load 0.
@@ -88,6 +106,28 @@ pub struct LoadAnswer {
     pub number: u32,
     pub function: u32,
     pub load: u64,
+}
+
+impl From<Result<Loaded, Refused>> for LoadAnswer {
+    ghost use Rattle.std.specs.Prelude.{◌≡◌};
+    ghost use Rattle.flow_c.specs.Exports.{load_answer_of};
+
+    ghost from_gives = { λ answer host. host ≡ load_answer_of answer };
+
+    fn from(answer: Result<Loaded, Refused>) -> LoadAnswer {
+        match answer {
+            Ok(loaded) => LoadAnswer {
+                number: 0,
+                function: loaded.id,
+                load: loaded.load,
+            },
+            Err(refused) => LoadAnswer {
+                number: number(refused.why),
+                function: refused.id,
+                load: 0,
+            },
+        }
+    }
 }
 
 // Any bytes, any words, any numbers: as `load` of crate load. All lent memory is only read.
@@ -100,24 +140,7 @@ pub extern "C" fn kagari_flow_load(
 ) -> LoadAnswer
     ensures { result ≡ host_load sheet.now sets.now blocks awaits }
 {
-    load_answer_of(load::load(sheet, sets, blocks as usize, awaits as usize))
-}
-
-fn load_answer_of(a: Result<Loaded, Refused>) -> LoadAnswer
-    ensures { result ≡ load_answer_of a }
-{
-    match a {
-        Ok(loaded) => LoadAnswer {
-            number: 0,
-            function: loaded.id,
-            load: loaded.load,
-        },
-        Err(e) => LoadAnswer {
-            number: e.why.number() as u32,
-            function: e.id,
-            load: 0,
-        },
-    }
+    load::load(sheet, sets, blocks as usize, awaits as usize).into()
 }
 
 // What work, state and retained facts may not exceed.
@@ -129,12 +152,56 @@ pub struct HostLimits {
     pub facts: u64,
 }
 
+impl From<HostLimits> for Limits {
+    ghost use Rattle.std.specs.Prelude.{◌≡◌};
+    ghost use Rattle.flow_c.specs.Within.{limits_of};
+
+    ghost from_gives = { λ host limits. limits ≡ limits_of host };
+
+    fn from(host: HostLimits) -> Limits {
+        Limits {
+            work: host.work,
+            state: host.state,
+            facts: host.facts,
+        }
+    }
+}
+
+impl From<Limits> for HostLimits {
+    ghost use Rattle.std.specs.Prelude.{◌≡◌};
+    ghost use Rattle.flow_c.specs.Within.{host_limits_of};
+
+    ghost from_gives = { λ limits host. host ≡ host_limits_of limits };
+
+    fn from(limits: Limits) -> HostLimits {
+        HostLimits {
+            work: limits.work,
+            state: limits.state,
+            facts: limits.facts,
+        }
+    }
+}
+
 // An answer with the limits as they were given.
 #[repr(C)]
 #[derive(Clone, Copy)]
 pub struct FlowAnswerWithin {
     pub answer: FlowAnswer,
     pub limits: HostLimits,
+}
+
+impl From<AnswerWithin> for FlowAnswerWithin {
+    ghost use Rattle.std.specs.Prelude.{◌≡◌};
+    ghost use Rattle.flow_c.specs.Within.{answer_within_of};
+
+    ghost from_gives = { λ given host. host ≡ answer_within_of given };
+
+    fn from(given: AnswerWithin) -> FlowAnswerWithin {
+        FlowAnswerWithin {
+            answer: given.answer.into(),
+            limits: given.limits.into(),
+        }
+    }
 }
 
 // As `kagari_flow_verify` with these limits, each of which counts as at most today's: as `verify_within` of crate flow_blocks.
@@ -149,10 +216,7 @@ pub extern "C" fn kagari_flow_verify_within(
 ) -> FlowAnswerWithin
     ensures { HostVerifiedWithin sheet.now limits (budget_of budget) blocks.old blocks.new sets.old sets.new scratch.old scratch.new result }
 {
-    let b = budget_of(budget);
-    let l = limits_of(limits);
-    let a = flow_blocks::verify_within(sheet, b, l, blocks, sets, scratch);
-    answer_within_of(a)
+    flow_blocks::verify_within(sheet, budget.into(), limits.into(), blocks, sets, scratch).into()
 }
 
 // The same with an added set of parameters: as `verify_with` of crate flow_blocks.
@@ -168,33 +232,14 @@ pub extern "C" fn kagari_flow_verify_with(
 ) -> FlowAnswerWithin
     ensures { HostVerifiedWith sheet.now added.now limits (budget_of budget) blocks.old blocks.new sets.old sets.new scratch.old scratch.new result }
 {
-    let b = budget_of(budget);
-    let l = limits_of(limits);
-    let a = flow_blocks::verify_with(sheet, added, b, l, blocks, sets, scratch);
-    answer_within_of(a)
-}
-
-fn limits_of(l: HostLimits) -> Limits
-    ensures { result ≡ limits_of l }
-{
-    Limits {
-        work: l.work,
-        state: l.state,
-        facts: l.facts,
-    }
-}
-
-fn answer_within_of(a: AnswerWithin) -> FlowAnswerWithin
-    ensures { result ≡ answer_within_of a }
-{
-    let given = a.limits;
-    let answer = answer_of(a.answer);
-    FlowAnswerWithin {
-        answer: answer,
-        limits: HostLimits {
-            work: given.work,
-            state: given.state,
-            facts: given.facts,
-        },
-    }
+    flow_blocks::verify_with(
+        sheet,
+        added,
+        budget.into(),
+        limits.into(),
+        blocks,
+        sets,
+        scratch,
+    )
+    .into()
 }

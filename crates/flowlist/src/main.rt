@@ -4,7 +4,7 @@
 
 ghost use Rattle.std.specs.Prelude.{◌≤◌, ◌^◌};
 
-use answers::Answer;
+use answers::Accepted;
 use budget::FlowBudget;
 use format::refusal::Refusal;
 use listing::{Await, Line};
@@ -57,8 +57,15 @@ impl<R: Print> Printer<'_, R> {
             retained: 0,
         };
         match flow::verify(sheet, budget, &mut blocks, &mut sets, &mut scratch) {
-            Answer::Refused(refusal, id, _) => self.refuse(refusal, id),
-            Answer::Accepted(id, count, awaits, _) => {
+            Err(refused) => self.refuse(refused.why, refused.id),
+            Ok(
+                Accepted {
+                    id,
+                    blocks: count,
+                    awaits,
+                    ..
+                },
+            ) => {
                 let load = load_of(sheet, &sets, count, awaits);
                 self.show(Line::Accept {
                     id,

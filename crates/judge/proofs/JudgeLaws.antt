@@ -6,15 +6,13 @@ use Prim.Native.Nat.{ℕ, ◌+◌, ◌*◌, ◌-◌, ◌/◌, ◌^◌, ◌≤◌
 use native.Mathlib.Omega.{arith}
 use borrow.Author.Tests.{lt-ltb, le-ltb}
 use lib.ListN.{length}
+use Rattle.std.specs.Prelude.{Result, Ok, Err}
 use Rattle.dataflow.specs.Lists.{pick}
 use Rattle.dataflow.specs.Charges.{counting_charges, building_charges}
 use Rattle.dataflow.specs.Results.{block_count}
 use Rattle.budget.specs.declared.FlowBudget.{FlowBudget}
 use Rattle.budget.specs.declared.Limits.{Limits}
-use Rattle.budget.specs.declared.Charged.{Charged}
-use Rattle.budget.specs.declared.Charged.TheVariants as charging
-use Rattle.budget.specs.Budget.{charged}
-use Rattle.format.specs.declared.refusal.Refusal.{Refusal}
+use Rattle.budget.specs.Budget.{Charged, charged}
 use Rattle.format.specs.declared.refusal.Refusal.TheVariants.{NoRoom}
 use Rattle.sizes.specs.declared.Layout.{Layout}
 use Rattle.memory.specs.Scratch.{scratch, Room}
@@ -24,10 +22,9 @@ use Rattle.sheet.specs.Decode.{parts_of}
 use Rattle.script.specs.Script.{flow_code}
 use Rattle.instructions.specs.Sound.{Sound}
 use Rattle.sizes.specs.declared.Lent.{Lent}
-use Rattle.sizes.specs.declared.Staged.{Staged}
-use Rattle.sizes.specs.declared.Staged.TheVariants as staging
+use Rattle.sizes.specs.declared.Stopped.{Stopped}
 use Rattle.rooms.specs.Rooms.{Indexes}
-use Rattle.sizes.specs.Stages.{rooms_of, if_met, if_ok, stage, graph_of}
+use Rattle.sizes.specs.Stages.{Staged, halt, rooms_of, if_met, if_ok, stage, graph_of}
 use Rattle.sizes.specs.Sizes.{layout_of}
 use Rattle.sizes.proofs.StageLaws.{rooms_yes}
 use Rattle.reads.specs.Reads.{held_set}
@@ -35,25 +32,24 @@ use Rattle.graph.specs.Graph.{Graphed}
 use Rattle.graph.proofs.GraphLaws.{staged_met}
 use Rattle.outcome.specs.Outcome.{lengths_with, Outcome, refused, after_graph, judged}
 use Rattle.judge.specs.declared.Judged.{Judged}
-use Rattle.judge.specs.declared.Judged.TheVariants.{Refused}
-use Rattle.judge.specs.Judge.{outcome_with, refused_at, Begun, Solves, AcceptedWords, Judges}
+use Rattle.judge.specs.Judge.{Begun, Solves, AcceptedWords, Judges}
 
 -- ---- where `graph` goes on, its layout is that of the script
 
 -- behind the rooms
 rooms-layout : (l : Limits) (y : Layout) (n : ℕ) (lent : Lent) (c : Charged) (y' : Layout) (left : FlowBudget)
-    → if_met c (rooms_of l y n lent) ≡ staging.Ok y' left → y ≡ y'
-rooms-layout l y n lent (charging.Ok b) y' left e = (rooms_yes l y n lent b y' left e).0
-rooms-layout l y n lent (charging.Over b) y' left e = let o : ◌≡◌ {A = ℕ} 0 1 = cc in absurd (omega arith)
+    → if_met c (rooms_of l y n lent) ≡ Ok (y', left) → y ≡ y'
+rooms-layout l y n lent (Ok b) y' left e = (rooms_yes l y n lent b y' left e).0
+rooms-layout l y n lent (Err e₀) y' left e = let o : ◌≡◌ {A = ℕ} 0 1 = cc in absurd (omega arith)
 
 -- behind a stage and such charges
 stage-layout : (l : Limits) (cs : List ℕ) (y : Layout) (r : Staged) (y' : Layout) (left : FlowBudget)
-    → ((z : Layout) (b : FlowBudget) → r ≡ staging.Ok z b → y ≡ z) → if_ok r (stage l cs) ≡ staging.Ok y' left → y ≡ y'
-stage-layout l cs y (staging.Ok z b) y' left h e = h z b refl ∙ (staged_met (charged l b cs) z y' left e).1
-stage-layout l cs y (staging.Refused n b) y' left h e = let o : ◌≡◌ {A = ℕ} 0 1 = cc in absurd (omega arith)
+    → ((z : Layout) (b : FlowBudget) → r ≡ Ok (z, b) → y ≡ z) → if_ok r (stage l cs) ≡ Ok (y', left) → y ≡ y'
+stage-layout l cs y (Ok p) y' left h e = h p.0 p.1 refl ∙ (staged_met (charged l p.1 cs) p.0 y' left e).1
+stage-layout l cs y (Err e₀) y' left h e = let o : ◌≡◌ {A = ℕ} 0 1 = cc in absurd (omega arith)
 
 graph_layout : (s : List ℕ) (x : Script) (l : Limits) (lent : Lent) (n : ℕ) (b : FlowBudget) (y : Layout) (left : FlowBudget)
-    → graph_of (flow_code (parts_of s)) x l lent n b ≡ staging.Ok y left → layout_of x (block_count (flow_code (parts_of s))) ≡ y
+    → graph_of (flow_code (parts_of s)) x l lent n b ≡ Ok (y, left) → layout_of x (block_count (flow_code (parts_of s))) ≡ y
 unfolding graph_of
 graph_layout s x l lent n b y left e =
     stage-layout l (building_charges (flow_code (parts_of s)))
@@ -72,10 +68,10 @@ module _ (s : List ℕ) (parameter : ℕ → Bool) (x : Script) (l : Limits) (re
       pick t (refused NoRoom x.id b) (after_graph s parameter x l (graph_of (flow_code (parts_of s)) x l (record { sets = length v; records = records }) (length w) b))
 
   -- too little is lent
-  pub judges_short : (w' v' : List ℕ) → length w < 4 * x.count → Judges s parameter x l records b w w' v v' (Refused NoRoom b)
+  pub judges_short : (w' v' : List ℕ) → length w < 4 * x.count → Judges s parameter x l records b w w' v v' (Err (halt NoRoom b))
   judges_short w' v' h = record {
     answer = ap answer-if (sym (lt-ltb (length w) (4 * x.count) h));
-    accepts = λ y awaits left q. let o : ◌≡◌ {A = ℕ} 0 1 = cc in absurd (omega arith);
+    accepts = λ j q. let o : ◌≡◌ {A = ℕ} 0 1 = cc in absurd (omega arith);
   }
 
   -- enough is lent, and `graph` was called
@@ -85,15 +81,14 @@ module _ (s : List ℕ) (parameter : ℕ → Bool) (x : Script) (l : Limits) (re
     answer-on = ap (after_graph s parameter x l) f.answer ∙ ap answer-if (sym (le-ltb (length w) (4 * x.count) enough))
 
     -- `graph` refused
-    pub judges_refused : (n : Refusal) (z : FlowBudget) (r : Judged) → g ≡ staging.Refused n z → r ≡ refused_at g
-        → Judges s parameter x l records b w w₁ v v₁ r
-    judges_refused n z r e er = record {
-      answer = ap (outcome_with x.id) (er ∙ ap refused_at e) ∙ ap (after_graph s parameter x l) (sym e) ∙ answer-on;
-      accepts = λ y awaits left q. let o : ◌≡◌ {A = ℕ} 0 1 = cc in absurd (omega arith);
+    pub judges_refused : (e : Stopped) → g ≡ Err e → Judges s parameter x l records b w w₁ v v₁ (Err e)
+    judges_refused e eg = record {
+      answer = ap (after_graph s parameter x l) (sym eg) ∙ answer-on;
+      accepts = λ j q. let o : ◌≡◌ {A = ℕ} 0 1 = cc in absurd (omega arith);
     }
 
     -- it goes on
-    module _ (y : Layout) (left : FlowBudget) (e : g ≡ staging.Ok y left) where
+    module _ (y : Layout) (left : FlowBudget) (e : g ≡ Ok (y, left)) where
       -- what it left behind
       indexes : Indexes s x (record { sets = length v; records = records }) w₁ y
       indexes = f.rooms y left e
@@ -128,12 +123,12 @@ module _ (s : List ℕ) (parameter : ℕ → Bool) (x : Script) (l : Limits) (re
       )
 
       -- `solve` answers: both buffers are as long as before
-      pub judges_on : (w₂ v₂ : List ℕ) (r : Judged) → length w₂ ≡ length w₁ → length v₂ ≡ length v
+      pub judges_on : (w₂ v₂ : List ℕ) (r : Result Judged Stopped) → length w₂ ≡ length w₁ → length v₂ ≡ length v
           → Solves s (held_set y (scratch y w₁)) x y l left (scratch y w₂) (sets y v₂) r → Judges s parameter x l records b w w₂ v v₂ r
       judges_on w₂ v₂ r long sets_long solved = let h = with_those solved in record {
         answer = h.answer ∙ ap (after_graph s parameter x l) (sym e) ∙ answer-on;
-        accepts = λ z awaits last q.
-            let k = h.finished z awaits last q in
+        accepts = λ j q.
+            let k = h.finished j q in
             subst (λ (u : Layout). AcceptedWords s parameter x (record { sets = length v; records = records }) w₂ v₂ u) (sym k.0)
             (record {
               fits = indexes.fits;

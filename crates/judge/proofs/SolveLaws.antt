@@ -1,19 +1,20 @@
 -- `solve`: what its calls ask for, and what it does by what they do. Assumes nothing.
-use mathlib.Core.Path.{◌≡◌, refl, sym, ap, subst, ◌∙◌}
+use mathlib.Core.Path.{◌≡◌, sym, ap, subst, ◌∙◌}
 use mathlib.Core.Bool.{Bool}
 use mathlib.Core.List.{List}
 use Prim.Native.Nat.{ℕ, ◌*◌, ◌-◌, ◌^◌, ◌≤◌, ◌<◌}
 use native.Mathlib.Omega.{arith}
-use lib.ListN.{length}
+use Rattle.std.specs.Prelude.{Ok, Err}
 use Rattle.budget.specs.declared.FlowBudget.{FlowBudget}
 use Rattle.budget.specs.declared.Limits.{Limits}
-use Rattle.budget.specs.declared.Charged.{Charged}
-use Rattle.budget.specs.declared.Charged.TheVariants as charging
-use Rattle.budget.specs.Budget.{charged, budget_of}
+use Rattle.budget.specs.declared.OverWork.{OverWork}
+use Rattle.budget.specs.Budget.{Charged, charged}
 use Rattle.format.specs.declared.refusal.Refusal.TheVariants.{WorkLimit}
 use Rattle.memory.specs.Cells.{Mem}
 use Rattle.memory.specs.Names.{offset_cell, parameters_row}
 use Rattle.sizes.specs.declared.Layout.{Layout}
+use Rattle.sizes.specs.declared.Stopped.{Stopped}
+use Rattle.sizes.specs.Stages.{halt}
 use Rattle.memory.specs.Scratch.{scratch, Room}
 use Rattle.memory.specs.Sets.{SetsRoom}
 use Rattle.memory.proofs.CellLaws.{same_word}
@@ -30,35 +31,14 @@ use Rattle.dataflow.specs.Checked.{Scripted}
 use Rattle.dataflow.specs.Charges.{fixed_points_charges}
 use Rattle.fixed_points.specs.Stages.{Flowing}
 use Rattle.fixed_points.proofs.Gathered.{fixed_still}
-use Rattle.verdict.specs.Points.{points}
-use Rattle.awaits.specs.declared.Points.{Points}
-use Rattle.awaits.specs.declared.Points.TheVariants.{Passed}
-use Rattle.awaits.specs.declared.Points.TheVariants as pointing
-use Rattle.awaits.specs.Awaits.{points_of}
 use Rattle.bitset.specs.Sets.{member}
-use Rattle.reads.specs.Reads.{held_set}
+use Rattle.reads.specs.Reads.{held_set, Checked, checking_of}
 use Rattle.check_points.specs.CheckPoints.{Solved, PointsChecked}
 use Rattle.check_points.proofs.SolvedLaws.{still-running, sets-kept}
 use Rattle.outcome.specs.Outcome.{accepted, after_points, after_rounds}
 use Rattle.judge.specs.declared.Judged.{Judged}
-use Rattle.judge.specs.declared.Judged.TheVariants.{Accepted, Refused}
-use Rattle.judge.specs.Judge.{outcome_with, pointed, Begun, Hosted, Finished, Solves}
+use Rattle.judge.specs.Judge.{Begun, Hosted, Finished, Solves}
 use Rattle.judge.proofs.CellsKept.{block-still, all-costs}
-
--- ---- the answer of `check_points`
-
--- as that of the whole, if it counts the awaits
-pointed-is : (s : List ℕ) (parameter : ℕ → Bool) (x : Script) (l : Limits) (y : Layout) (p : Points)
-    → ((n : ℕ) (left : FlowBudget) → p ≡ Passed n left → n ≡ length (points (flow_code (parts_of s)) parameter y.words))
-    → outcome_with x.id (pointed y p) ≡ after_points s parameter x l y (points_of p)
-pointed-is s parameter x l y (Passed n b) h = ap (λ (k : ℕ). accepted x.id y.blocks k b) (h n b refl)
-pointed-is s parameter x l y (pointing.Refused r b) h = refl
-
--- where it accepts, it passed, and the layout is the same
-accepted-passed : (y z : Layout) (p : Points) (awaits : ℕ) (left : FlowBudget) → pointed y p ≡ Accepted z awaits left
-    → (p ≡ Passed awaits left) × (z ≡ y)
-accepted-passed y z (Passed n b) awaits left e = (cc, cc)
-accepted-passed y z (pointing.Refused r b) awaits left e = let o : ◌≡◌ {A = ℕ} 0 1 = cc in absurd (omega arith)
 
 -- ---- the stages
 
@@ -87,16 +67,14 @@ module _ (s : List ℕ) (parameter : ℕ → Bool) (x : Script) (y : Layout) (m 
         f.charges (flow_code (parts_of s)) parameter scripted-here begun.holding.flows begun.fresh
 
     -- a charge of the rounds crossed the limit
-    pub solves_over : (z : FlowBudget) (m' t' : Mem) (r : Judged) → c ≡ charging.Over z → r ≡ Refused WorkLimit (budget_of c)
-        → Solves s parameter x y l b m' t' r
-    solves_over z m' t' r eo er = record {
-      answer = ap (outcome_with x.id) (er ∙ ap (λ (d : Charged). Refused WorkLimit (budget_of d)) eo)
-          ∙ ap (after_rounds s parameter x l y) (sym eo ∙ rounds-charged);
-      finished = λ y' awaits left q. let o : ◌≡◌ {A = ℕ} 0 1 = cc in absurd (omega arith);
+    pub solves_over : (e : OverWork) (m' t' : Mem) → c ≡ Err e → Solves s parameter x y l b m' t' (Err (halt WorkLimit e.budget))
+    solves_over e m' t' eo = record {
+      answer = ap (after_rounds s parameter x l y) (sym eo ∙ rounds-charged);
+      finished = λ j q. let o : ◌≡◌ {A = ℕ} 0 1 = cc in absurd (omega arith);
     }
 
     -- all were met, and then the row of the host slots was stored where it is asked for
-    module _ (left : FlowBudget) (ec : c ≡ charging.Ok left) (m₂ : Mem)
+    module _ (left : FlowBudget) (ec : c ≡ Ok left) (m₂ : Mem)
         (eh : Hosted s x y (scratch y w) m₂) where
       -- the rounds leave what the words hold of the script
       rounds-still : Still y m (scratch y w)
@@ -149,7 +127,7 @@ module _ (s : List ℕ) (parameter : ℕ → Bool) (x : Script) (y : Layout) (m 
         subst (λ (set : ℕ → Bool). Solved s set x y m₂ t₁) (sym (held-still h)) solved,
       )
 
-      module _ (held : held_set y m ≡ parameter) (m₃ t₃ : Mem) (p : Points) (checked : PointsChecked s (held_set y m₂) x y l left m₂ m₃ t₁ t₃ p) where
+      module _ (held : held_set y m ≡ parameter) (m₃ t₃ : Mem) (p : Checked) (checked : PointsChecked s (held_set y m₂) x y l left m₂ m₃ t₁ t₃ p) where
         -- what it does, with those parameters
         g : PointsChecked s parameter x y l left m₂ m₃ t₁ t₃ p
         g = subst (λ (set : ℕ → Bool). PointsChecked s set x y l left m₂ m₃ t₁ t₃ p) (held-still held) checked
@@ -159,7 +137,7 @@ module _ (s : List ℕ) (parameter : ℕ → Bool) (x : Script) (y : Layout) (m 
         points-still = still-running (record { others = g.others })
 
         -- where it passed, the words hold all of a script that is accepted
-        all_finished : (n : ℕ) (last : FlowBudget) → p ≡ Passed n last → Finished s parameter y m₃ t₃
+        all_finished : (n : ℕ) (last : FlowBudget) → p ≡ Ok (n, last) → Finished s parameter y m₃ t₃
         all_finished n last e = record {
           block = λ d lt. block-still points-still d lt (block_here d lt);
           flows = flows-still points-still solved.flows;
@@ -167,12 +145,24 @@ module _ (s : List ℕ) (parameter : ℕ → Bool) (x : Script) (y : Layout) (m 
           facts = g.entries n last e;
         }
 
-        -- its answer is that of all
-        pub solves_on : (r : Judged) → r ≡ pointed y p → Solves s parameter x y l b m₃ t₃ r
-        solves_on r er = record {
-          answer = ap (outcome_with x.id) er ∙ pointed-is s parameter x l y p g.count ∙ ap (after_points s parameter x l y) g.answer
-              ∙ ap (after_rounds s parameter x l y) (sym ec ∙ rounds-charged);
-          finished = λ z awaits last q.
-              let a = accepted-passed y z p awaits last (sym er ∙ q) in
-              (a.1, all_finished awaits last a.0);
+        -- what follows its answer
+        points-answer : after_points s parameter x l y (checking_of p)
+            ≡ after_rounds s parameter x l y (charged l b (fixed_points_charges (flow_code (parts_of s)) parameter y.words))
+        points-answer = ap (after_points s parameter x l y) g.answer ∙ ap (after_rounds s parameter x l y) (sym ec ∙ rounds-charged)
+
+        -- it refused
+        pub solves_refused : (e : Stopped) → p ≡ Err e → Solves s parameter x y l b m₃ t₃ (Err e)
+        solves_refused e q = record {
+          answer = ap (λ (r : Checked). after_points s parameter x l y (checking_of r)) (sym q) ∙ points-answer;
+          finished = λ j o. let o : ◌≡◌ {A = ℕ} 0 1 = cc in absurd (omega arith);
+        }
+
+        -- it passed, and counts the awaits
+        pub solves_on : (n : ℕ) (last : FlowBudget) → p ≡ Ok (n, last)
+            → Solves s parameter x y l b m₃ t₃ (Ok (record { layout = y; awaits = n; budget = last }))
+        solves_on n last q = record {
+          answer = ap (λ (k : ℕ). accepted x.id y.blocks k last) (g.count n last q)
+              ∙ ap (λ (r : Checked). after_points s parameter x l y (checking_of r)) (sym q) ∙ points-answer;
+          finished = λ j e. let same : ◌≡◌ {A = Judged} (record { layout = y; awaits = n; budget = last }) j = cc in
+              (ap (λ (z : Judged). z.layout) (sym same), all_finished n last q);
         }

@@ -1,9 +1,8 @@
 -- flow.rs `verify` on a sheet that passed the checks: what `outcome` says, and what both buffers then hold.
-use Rattle.std.specs.Prelude.{◌≡◌, Bool, true, List, ℕ, ◌+◌, ◌/◌, ◌≤◌, ◌<◌, length}
+use Rattle.std.specs.Prelude.{◌≡◌, Bool, true, List, ℕ, ◌+◌, ◌/◌, ◌≤◌, ◌<◌, length, Result, Ok, Err}
 use Rattle.budget.specs.declared.FlowBudget.{FlowBudget}
 use Rattle.budget.specs.declared.Limits.{Limits}
 use Rattle.budget.specs.Budget.{charged}
-use Rattle.format.specs.declared.refusal.Refusal.TheVariants.{NoRoom}
 use Rattle.memory.specs.Cells.{Mem, cell}
 use Rattle.memory.specs.Names.{hosts_row}
 use Rattle.sizes.specs.declared.Layout.{Layout}
@@ -13,8 +12,7 @@ use Rattle.sheet.specs.declared.script.Script.{Script}
 use Rattle.sheet.specs.Decode.{parts_of}
 use Rattle.script.specs.Script.{flow_code, host_in}
 use Rattle.sizes.specs.declared.Lent.{Lent}
-use Rattle.sizes.specs.declared.Staged.{Staged}
-use Rattle.sizes.specs.declared.Staged.TheVariants as staging
+use Rattle.sizes.specs.declared.Stopped.{Stopped}
 use Rattle.instructions.specs.Sound.{Sound}
 use Rattle.leaders.specs.Index.{Fits}
 use Rattle.blocks.specs.Blocks.{Block}
@@ -25,17 +23,13 @@ use Rattle.graph.specs.Graph.{Holding}
 use Rattle.answer.specs.Words.{Means}
 use Rattle.verdict.specs.Points.{points}
 use Rattle.outcome.specs.Outcome.{lengths_with, Outcome, accepted, refused, after_rounds, judged}
-use Rattle.awaits.specs.declared.Points.{Points}
-use Rattle.awaits.specs.declared.Points.TheVariants.{Passed}
-use Rattle.awaits.specs.declared.Points.TheVariants as pointing
 use Rattle.awaits.specs.Awaits.{Entries}
 use Rattle.judge.specs.declared.Judged.{Judged}
-use Rattle.judge.specs.declared.Judged.TheVariants.{Accepted, Refused}
 
 -- an answer as that of the call, for the function with this id
-abbrev pub outcome_with : ℕ → Judged → Outcome
-outcome_with id (Accepted y n b) = accepted id y.blocks n b
-outcome_with id (Refused r b) = refused r id b
+abbrev pub outcome_with : ℕ → Result Judged Stopped → Outcome
+outcome_with id (Ok j) = accepted id j.layout.blocks j.awaits j.budget
+outcome_with id (Err e) = refused e.why id e.budget
 
 -- what `solve` begins with: the parameters are slots of the script
 pub record Begun (s : List ℕ) (parameter : ℕ → Bool) (x : Script) (y : Layout) (m t : Mem) : Type 0 where
@@ -59,20 +53,10 @@ pub record Finished (s : List ℕ) (parameter : ℕ → Bool) (y : Layout) (m t 
   pub facts : Entries y t 0 (points (flow_code (parts_of s)) parameter y.words)
 
 -- what `solve` does: an answer that accepts carries the layout that it was given
-pub record Solves (s : List ℕ) (parameter : ℕ → Bool) (x : Script) (y : Layout) (l : Limits) (b : FlowBudget) (m' t' : Mem) (r : Judged) : Type 0 where
+pub record Solves (s : List ℕ) (parameter : ℕ → Bool) (x : Script) (y : Layout) (l : Limits) (b : FlowBudget) (m' t' : Mem) (r : Result Judged Stopped) : Type 0 where
   pub answer : outcome_with x.id r
       ≡ after_rounds s parameter x l y (charged l b (fixed_points_charges (flow_code (parts_of s)) parameter y.words))
-  pub finished : (z : Layout) (awaits : ℕ) (left : FlowBudget) → r ≡ Accepted z awaits left → (z ≡ y) × Finished s parameter y m' t'
-
--- a stage's refusal; where it goes on this is not asked
-abbrev pub refused_at : Staged → Judged
-refused_at (staging.Refused r b) = Refused r b
-refused_at (staging.Ok y b) = Refused NoRoom b
-
--- the answer of `check_points` as that of the whole
-abbrev pub pointed : Layout → Points → Judged
-pointed y (Passed n b) = Accepted y n b
-pointed y (pointing.Refused r b) = Refused r b
+  pub finished : (j : Judged) → r ≡ Ok j → (j.layout ≡ y) × Finished s parameter y m' t'
 
 -- of the words of both buffers, w and v: they have room, and they hold a script that is accepted
 pub record AcceptedWords (s : List ℕ) (parameter : ℕ → Bool) (x : Script) (lent : Lent) (w v : List ℕ) (y : Layout) : Type 0 where
@@ -85,7 +69,6 @@ pub record AcceptedWords (s : List ℕ) (parameter : ℕ → Bool) (x : Script) 
   pub finished : Finished s parameter y (scratch y w) (sets y v)
 
 -- what `judge` does
-pub record Judges (s : List ℕ) (parameter : ℕ → Bool) (x : Script) (l : Limits) (records : ℕ) (b : FlowBudget) (w w' v v' : List ℕ) (r : Judged) : Type 0 where
+pub record Judges (s : List ℕ) (parameter : ℕ → Bool) (x : Script) (l : Limits) (records : ℕ) (b : FlowBudget) (w w' v v' : List ℕ) (r : Result Judged Stopped) : Type 0 where
   pub answer : outcome_with x.id r ≡ judged s parameter x l (lengths_with w v records) b
-  pub accepts : (y : Layout) (awaits : ℕ) (left : FlowBudget) → r ≡ Accepted y awaits left
-      → AcceptedWords s parameter x (record { sets = length v; records = records }) w' v' y
+  pub accepts : (j : Judged) → r ≡ Ok j → AcceptedWords s parameter x (record { sets = length v; records = records }) w' v' j.layout

@@ -11,21 +11,21 @@ ghost use Rattle.instructions.specs.Sets.{host_row};
 ghost use Rattle.instructions.specs.Sound.{Sound};
 ghost use Rattle.starts.specs.Starts.{parameter_with};
 ghost use Rattle.reads.specs.Reads.{held_set};
-ghost use Rattle.judge.specs.Judge.{refused_at, pointed, Begun, Hosted, Solves, Judges};
+ghost use Rattle.judge.specs.Judge.{Begun, Hosted, Solves, Judges};
 
-use awaits::Points;
-use budget::{Charged, FlowBudget, Limits};
+use budget::{FlowBudget, Limits};
 use format::refusal::Refusal;
 use instructions::sets;
 use memory::layout;
 use sheet::script::Script;
-use sizes::{Layout, Staged};
+use sizes::{Layout, Stopped};
 
-// Accepted with the layout, how many awaits are reached, and the budget; or refused with the budget as charged.
-#[derive(Clone, Copy)]
-pub enum Judged {
-    Accepted(Layout, usize, FlowBudget),
-    Refused(Refusal, FlowBudget),
+// A script that is accepted: the layout of both buffers, how many awaits are reached, and the budget as charged.
+#[derive(Clone, Copy, PartialEq, Eq, Debug)]
+pub struct Judged {
+    pub layout: Layout,
+    pub awaits: usize,
+    pub budget: FlowBudget,
 }
 
 // The early 10, then the graph, both rounds, and the checks of reads and awaits. `added` is a set of slots that are parameters beside the sheet's
@@ -39,17 +39,17 @@ pub fn judge(
     records: usize,
     limits: Limits,
     budget: FlowBudget,
-) -> Judged
+) -> Result<Judged, Stopped>
     requires { (Sound sheet.now script) × (limits.work < 2 ^ 64 - 1) }
     ensures { Judges sheet.now (parameter_with (parts_of sheet.now) added.now) script limits records budget s.old s.new t.old t.new result }
 {
     if s.len() < 4 * script.count {
-        return Judged::Refused(Refusal::NoRoom, budget);
+        return Err(Stopped {
+            why: Refusal::NoRoom,
+            budget,
+        });
     }
-    let g = graph::graph(sheet, added, s, t, script, records, limits, budget);
-    let Staged::Ok(y, left) = g else {
-        return staged(g);
-    };
+    let (y, left) = graph::graph(sheet, added, s, t, script, records, limits, budget)?;
     solve(sheet, s, t, script, y, limits, left)
 }
 
@@ -62,19 +62,18 @@ fn solve(
     y: Layout,
     limits: Limits,
     budget: FlowBudget,
-) -> Judged
+) -> Result<Judged, Stopped>
     requires { Room y (length s.old) × SetsRoom y (length t.old) × (Begun sheet.now (held_set y (scratch y s.old)) script y (scratch y s.old) (sets y t.old)) × (limits.work < 2 ^ 64 - 1) }
     ensures { Solves sheet.now (held_set y (scratch y s.old)) script y limits budget (scratch y s.new) (sets y t.new) result }
 {
-    let c = fixed_points::fixed_points(s, t, y, limits, budget);
-    let Charged::Ok(left) = c else {
-        return Judged::Refused(Refusal::WorkLimit, c.budget());
-    };
+    let met = fixed_points::fixed_points(s, t, y, limits, budget)?;
     hosts_if(sheet, s, script, y);
-    point(
-        check_points::check_points(sheet, s, t, script, y, limits, left),
-        y,
-    )
+    let (awaits, left) = check_points::check_points(sheet, s, t, script, y, limits, met)?;
+    Ok(Judged {
+        layout: y,
+        awaits,
+        budget: left,
+    })
 }
 
 // Only an await asks for the row of the host slots.
@@ -95,24 +94,4 @@ fn hosts(sheet: &[u8], s: &mut [u64], script: Script, y: Layout)
 {
     let base = layout::scratch_start(y, layout::hosts(y));
     sets::insert_hosts(sheet, script, &mut s[base..base + y.words]);
-}
-
-// A refusal of `graph` as that of the whole.
-fn staged(g: Staged) -> Judged
-    ensures { result ≡ refused_at g }
-{
-    match g {
-        Staged::Ok(_, b) => Judged::Refused(Refusal::NoRoom, b),
-        Staged::Refused(r, b) => Judged::Refused(r, b),
-    }
-}
-
-// The answer of `check_points` as that of the whole.
-fn point(p: Points, y: Layout) -> Judged
-    ensures { result ≡ pointed y p }
-{
-    match p {
-        Points::Passed(n, b) => Judged::Accepted(y, n, b),
-        Points::Refused(r, b) => Judged::Refused(r, b),
-    }
 }

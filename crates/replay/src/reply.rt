@@ -22,8 +22,8 @@ pub struct Reply<'a> {
 impl fmt::Display for Reply<'_> {
     fn fmt<W: fmt::Write>(&self, f: &mut fmt::Formatter<W>) -> fmt::Result {
         let (number, id, blocks, awaits, budget) = match self.answer {
-            Answer::Accepted(id, blocks, awaits, budget) => (0, id, blocks, awaits, budget),
-            Answer::Refused(refusal, id, budget) => (refusal.number(), id, 0, 0, budget),
+            Ok(a) => (0, a.id, a.blocks, a.awaits, a.budget),
+            Err(e) => (e.why.number(), e.id, 0, 0, e.budget),
         };
         let (name, work, retained) = (self.name, budget.work, budget.retained);
         write!(

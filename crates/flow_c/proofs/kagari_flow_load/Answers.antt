@@ -5,4 +5,4 @@ use Rattle.flow_c.proofs.kagari_flow_load.Goals as goal
 
 pub returns : goal.returns
 returns c =
-    c.load_answer_of.ensures ∙ ap load_answer_of c.load.ensures
+    c.into.ensures ∙ ap load_answer_of c.load.ensures

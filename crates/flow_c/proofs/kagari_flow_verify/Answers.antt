@@ -3,4 +3,4 @@ use Rattle.flow_c.proofs.HostLaws.{hosted}
 use Rattle.flow_c.proofs.kagari_flow_verify.Goals as goal
 
 pub returns : goal.returns
-returns c = hosted _ _ _ _ _ _ _ _ _ _ _ c.budget_of-b.ensures c.verify-a.ensures c.answer_of.ensures
+returns c = hosted _ _ _ _ _ _ _ _ _ _ _ c.into.ensures c.verify.ensures c.into-2.ensures

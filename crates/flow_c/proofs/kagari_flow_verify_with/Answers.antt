@@ -3,4 +3,4 @@ use Rattle.flow_c.proofs.HostLaws.{hosted-with}
 use Rattle.flow_c.proofs.kagari_flow_verify_with.Goals as goal
 
 pub returns : goal.returns
-returns c = hosted-with _ _ _ _ _ _ _ _ _ _ _ _ _ _ c.budget_of-b.ensures c.limits_of-l.ensures c.verify_with-a.ensures c.answer_within_of.ensures
+returns c = hosted-with _ _ _ _ _ _ _ _ _ _ _ _ _ _ c.into.ensures c.into-2.ensures c.verify_with.ensures c.into-3.ensures
