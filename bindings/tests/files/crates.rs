@@ -70,7 +70,7 @@ fn architecture_has_the_headings_and_crates_of_crates_txt() {
     );
 }
 
-/// The text of all files of Rattle and antt below a folder.
+/// The text of all files of Rattle and antt below a folder, and of the edits there, whose new lines must compile too.
 fn code_below(folder: &Path, text: &mut String) {
     for entry in fs::read_dir(folder).into_iter().flatten() {
         let file = entry.expect("an entry").path();
@@ -78,7 +78,7 @@ fn code_below(folder: &Path, text: &mut String) {
             code_below(&file, text);
         } else if file
             .extension()
-            .is_some_and(|end| end == "rt" || end == "antt")
+            .is_some_and(|end| end == "rt" || end == "antt" || end == "edit")
         {
             text.push_str(&fs::read_to_string(&file).expect("text"));
         }
@@ -90,7 +90,7 @@ fn a_crate_lists_only_crates_that_its_files_name() {
     let all = listed();
     for krate in &all {
         let mut text = String::new();
-        for part in ["src", "specs", "proofs"] {
+        for part in ["src", "specs", "proofs", "must-fail"] {
             code_below(&path("crates").join(&krate.name).join(part), &mut text);
         }
         for name in &krate.stands_on {
