@@ -13,7 +13,7 @@ use sizes::Layout;
 
 // A block: where it begins and ends, whether a path reaches it (0 or 1), how many successors it has, and which blocks they are, unused ones 0.
 #[repr(C)]
-#[derive(Clone, Copy)]
+#[derive(Clone, Copy, PartialEq, Eq, Debug)]
 pub struct Block {
     pub start: u32,
     pub end: u32,
@@ -28,10 +28,8 @@ pub fn fill(list: &mut [Block], s: &[u64], y: Layout)
     requires { Room y (length s.now) }
     ensures { list.new ≡ tabulate 0 (length list.old) (listed_block (scratch y s.now) y.blocks) }
 {
-    let mut i = 0;
-    while i < list.len() {
-        list[i] = record(s, y, i);
-        i += 1;
+    for (i, block) in list.iter_mut().enumerate() {
+        *block = record(s, y, i);
     }
 }
 

@@ -13,10 +13,8 @@ pub fn fill(list: &mut [u64], s: &[u64], y: Layout)
     requires { Room y (length s.now) }
     ensures { list.new ≡ list_words (scratch y s.now) y.blocks (length list.old) }
 {
-    let mut k = 0;
-    while k < list.len() {
-        list[k] = word(s, y, k);
-        k += 1;
+    for (k, entry) in list.iter_mut().enumerate() {
+        *entry = word(s, y, k);
     }
 }
 

@@ -17,7 +17,7 @@ use sheet::script::Refused;
 
 // Work charged and bytes retained so far.
 #[repr(C)]
-#[derive(Clone, Copy)]
+#[derive(Clone, Copy, PartialEq, Eq, Debug)]
 pub struct HostBudget {
     pub work: u64,
     pub retained: u64,
@@ -39,7 +39,7 @@ impl From<HostBudget> for FlowBudget {
 
 // Number 0: accepted, with how many blocks there are and how many awaits are reached. Else the number of the refusal, and zeros for these.
 #[repr(C)]
-#[derive(Clone, Copy)]
+#[derive(Clone, Copy, PartialEq, Eq, Debug)]
 pub struct FlowAnswer {
     pub number: u32,
     pub function: u32,
@@ -101,7 +101,7 @@ pub extern "C" fn kagari_flow_verify(
 
 // Number 0 and the load. Else the number of the refusal, and load 0.
 #[repr(C)]
-#[derive(Clone, Copy)]
+#[derive(Clone, Copy, PartialEq, Eq, Debug)]
 pub struct LoadAnswer {
     pub number: u32,
     pub function: u32,
@@ -145,7 +145,7 @@ pub extern "C" fn kagari_flow_load(
 
 // What work, state and retained facts may not exceed.
 #[repr(C)]
-#[derive(Clone, Copy)]
+#[derive(Clone, Copy, PartialEq, Eq, Debug)]
 pub struct HostLimits {
     pub work: u64,
     pub state: u64,
@@ -184,7 +184,7 @@ impl From<Limits> for HostLimits {
 
 // An answer with the limits as they were given.
 #[repr(C)]
-#[derive(Clone, Copy)]
+#[derive(Clone, Copy, PartialEq, Eq, Debug)]
 pub struct FlowAnswerWithin {
     pub answer: FlowAnswer,
     pub limits: HostLimits,

@@ -9,7 +9,7 @@ use sheet::script::{Refused, Script};
 
 // Number 0 and what the engine has to know of the sheet; or the number of the refusal, with the function's id alone.
 #[repr(C)]
-#[derive(Clone, Copy)]
+#[derive(Clone, Copy, PartialEq, Eq, Debug)]
 pub struct SheetFacts {
     pub number: u64,
     pub id: u64,

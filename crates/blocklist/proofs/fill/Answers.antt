@@ -1,5 +1,5 @@
 -- `blocklist::fill` meets its contract: after k turns the first k words of the list stand. Assumes nothing.
-use Rattle.std.proofs.Common.{arith, length-set}
+use Rattle.std.proofs.Common.{arith}
 use Rattle.memory.specs.Scratch.{scratch}
 use Rattle.blocklist.proofs.WordLaws.{filled_none, filled_more, filled_all}
 use Rattle.blocklist.proofs.fill.Goals as goal
@@ -11,9 +11,6 @@ loop-k-init c =
 
 pub word-requires : goal.word-requires
 word-requires c = c.requires
-
-pub loop-k-smaller : goal.loop-k-smaller
-loop-k-smaller c = omega (arith, length-set c.loop-k.list c.loop-k.k c.word.result)
 
 pub loop-k-preserved : goal.loop-k-preserved
 loop-k-preserved c = filled_more c.loop-k.invariant (omega (arith, c.loop-k.invariant.long)) c.word.ensures
