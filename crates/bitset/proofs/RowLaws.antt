@@ -4,9 +4,11 @@ use mathlib.Core.Path.{◌≡◌, sym, ap, ap₂, ◌∙◌, subst}
 use mathlib.Core.List.{List, ◌++◌}
 use Prim.Native.Nat.{ℕ, ◌+◌, ◌-◌, ◌/◌, ◌%◌, ◌^◌, ◌≤◌, ◌<◌}
 use native.Mathlib.Omega.{arith}
+use lib.Bits.{bit_and, bit_or}
 use lib.ListN.{length, take, drop, get_or, set, length-set, take-append-drop, length-append, length-take, length-drop, get_or-append}
 use lib.Seq.{get_or-take, get_or-drop, get_or-append-add, ext_get_or, drop-drop, set-append_left, length-take-le, take-set-le, drop-set-add}
-use Rattle.bitset.specs.Sets.{member, Words}
+use Rattle.bitset.specs.Sets.{ones, member, Words}
+use Rattle.bitset.specs.Operations.{inserted, removed}
 use Rattle.bitset.specs.Rows.{row, patched}
 use Rattle.bitset.proofs.Digits.{bit}
 use Rattle.bitset.proofs.SetLaws.{words-each}
@@ -108,3 +110,28 @@ set-row l base w i v h k =
 pub member-row : (l : List ℕ) (base w slot : ℕ) → slot / 64 < w → member (drop base l) slot ≡ member (row l base w) slot
 unfolding member row
 member-row l base w slot h = ap (λ (x : ℕ). bit x (slot % 64)) (sym (get_or-take w (drop base l) (slot / 64) 0 h))
+
+-- ---- one slot of the set that begins at base
+-- l with the slot put into it, and with the slot taken out of it
+unfoldable pub inserted_at : List ℕ → ℕ → ℕ → List ℕ
+inserted_at l base slot = take base l ++ inserted (drop base l) slot
+
+unfoldable pub removed_at : List ℕ → ℕ → ℕ → List ℕ
+removed_at l base slot = take base l ++ removed (drop base l) slot
+
+-- word i from base on becomes f of itself, seen as a row replaced
+put-row : (f : ℕ → ℕ) (l : List ℕ) (base w i : ℕ) → base + w ≤ length l → i < w
+    → take base l ++ set (drop base l) i (f (get_or (drop base l) i 0)) ≡ patched l base (set (row l base w) i (f (get_or (row l base w) i 0)))
+put-row f l base w i h k =
+    sym (set-drop l base i (f (get_or (drop base l) i 0)))
+    ∙ ap (λ (x : ℕ). set l (base + i) (f x)) (get_or-drop base l i 0 ∙ sym (get_or-row l base w i k))
+    ∙ set-row l base w i (f (get_or (row l base w) i 0)) h k
+
+module _ (l : List ℕ) (base w slot : ℕ) (h : base + w ≤ length l) (k : slot / 64 < w) where
+  pub inserted_row : inserted_at l base slot ≡ patched l base (inserted (row l base w) slot)
+  unfolding inserted_at inserted
+  inserted_row = put-row (λ x. bit_or x (2 ^ (slot % 64))) l base w (slot / 64) h k
+
+  pub removed_row : removed_at l base slot ≡ patched l base (removed (row l base w) slot)
+  unfolding removed_at removed
+  removed_row = put-row (λ x. bit_and x (ones - 2 ^ (slot % 64))) l base w (slot / 64) h k

@@ -57,7 +57,8 @@ impl Limits {
 }
 
 impl FlowBudget {
-    // Charges work: `charge` of flow.rs. The budget to go on with, or the one that crossed the limit.
+    // Charges work: `charge` of flow.rs. The budget to go on with, or the one that crossed the limit. `retain` adds to another field, looks at another
+    // limit and has another error: one function would be handed all three.
     pub fn charge(self, count: u64, limits: Limits) -> Result<FlowBudget, OverWork>
         ensures { result ≡ charged limits self (count ∷ []) }
     {

@@ -20,7 +20,8 @@ pub struct Counts {
     pub instructions: usize,
 }
 
-// What is wrong with the fields of an instruction.
+// What is wrong with the fields of an instruction. Three flags and no `Option<Refusal>`: a later field may hold the earlier refusal, so each is
+// gathered over all fields, which for one refusal would be a least of two options at each field.
 #[derive(Clone, Copy, PartialEq, Eq, Default, Debug)]
 pub struct Faults {
     // a module slot above 65,535
@@ -31,7 +32,8 @@ pub struct Faults {
     pub targets: bool,
 }
 
-// Whether a field is a module slot above 65,535.
+// Whether a field is a module slot above 65,535. This and the next two are three tests of a field: as one function they would be the arms of one
+// more `match`, over which refusal is asked for.
 #[tactic(auto, unfolding(crate::specs::Fields::bad_module))]
 fn bad_module(role: Role, x: u32) -> bool
     ensures { result ≡ bad_module (role_number role) x }
@@ -44,6 +46,7 @@ fn bad_module(role: Role, x: u32) -> bool
 fn no_slot(role: Role, x: u32, slots: usize) -> bool
     ensures { result ≡ no_slot slots (role_number role) x }
 {
+    // the sheet's own numbers are compared, as an `Option` of the field would be taken apart again here
     match role {
         Role::Output | Role::Input | Role::Rest => slots <= x as usize,
         Role::OptionalOutput | Role::OptionalInput => slots <= x as usize && x != ABSENT,

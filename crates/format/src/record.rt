@@ -5,7 +5,7 @@ ghost use Rattle.format.specs.Answers.{IsRecord};
 
 use crate::bytes;
 
-#[derive(Clone, Copy)]
+#[derive(Clone, Copy, PartialEq, Eq, Debug)]
 pub struct Record<'a> {
     pub kind: u16,
     pub body: &'a [u8],

@@ -23,7 +23,7 @@ pub enum Refusal {
 }
 
 impl Refusal {
-    // Its number in the table.
+    // Its number in the table. `u64::from(why)` would be the same cast, and not say that it is the table's number.
     pub fn number(self) -> u64
         ensures { result ≡ number_of self }
     {

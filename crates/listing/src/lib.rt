@@ -31,7 +31,7 @@ pub enum Line<'a> {
     },
     // "await INSTRUCTION SLOT.."
     Await(Await<'a>),
-    // "refuse NUMBER ID"
+    // "refuse NUMBER ID", the number as it is shown: this crate stands on no crate of the checks, and so has no `Refusal`
     Refuse {
         number: u64,
         id: u32,

@@ -1,16 +1,44 @@
--- What the patterns are like, by tests that are computed at each field of each kind. Assumes nothing.
+-- The code's table holds the patterns, and what the patterns are like, by tests that are computed at each field of each kind. Assumes nothing.
 use mathlib.Core.Path.{◌≡◌, refl, ap, sym, ◌∙◌}
 use mathlib.Core.Bool.{Bool, true, false}
-use mathlib.Core.List.{List, [], ◌∷◌}
-use Prim.Native.Nat.{ℕ, ◌≤◌, ◌<◌}
+use mathlib.Core.List.{List, [], ◌∷◌, map}
+use Prim.Native.Nat.{ℕ, ◌+◌, ◌-◌, ◌*◌, ◌≤◌, ◌<◌}
 use native.Mathlib.Omega.{arith}
 use lib.Dec.{T, eqb, ltb, leb, eqb→eq, ltb→lt}
 use borrow.Author.Tests.{eq-eqb, le-leb, ltb-true, ltb-false, eqb-true, leb-true}
+use lib.ListN.{get_or}
 use Rattle.operands.specs.Choice.{pick}
 use Rattle.operands.specs.Places.{Place}
 use Rattle.operands.specs.Patterns.{D, Dopt, groups, pattern_in, pattern_of, role_in, role_at, single_of, fixed_at, list_at, fits}
 use Rattle.operands.specs.ByPattern.{places_from}
+use Rattle.operands.specs.Roles.{role_number}
+use Rattle.operands.specs.declared.pattern.Row.{Row}
+use Rattle.operands.specs.declared.pattern.TheConstants.{PATTERNS}
 use Rattle.operands.proofs.Table.{at_kind, at_field}
+
+-- a pattern as five octal digits, how many single fields there are and then the roles, field 0 first: a row of the code's table, and the pattern
+-- of kind k
+abbrev row_word : Row → ℕ
+row_word r = 4096 * r.0 + 512 * role_number r.1 + 64 * role_number r.2 + 8 * role_number r.3 + role_number r.4
+
+unfoldable pub word_of : ℕ → ℕ
+word_of k = 4096 * fixed_at k + 512 * role_at k 0 + 64 * role_at k 1 + 8 * role_at k 2 + role_at k 3
+
+-- the numbers of `PATTERNS`
+abbrev pub words : List ℕ
+words = map row_word PATTERNS
+
+unfoldable own : ℕ → Bool
+own k = eqb (get_or words (k - 1) 0) (word_of k)
+
+all_own : (k : ℕ) → 1 ≤ k → k ≤ 41 → T (own k)
+unfolding own word_of pattern_of pattern_in groups role_in role_at fixed_at
+all_own = at_kind own tt
+
+-- the row that `Pattern::of` reads
+pub word_at : (k : ℕ) → 1 ≤ k → k ≤ 41 → get_or words (k - 1) 0 ≡ word_of k
+unfolding own
+word_at k l h = eqb→eq (get_or words (k - 1) 0) (word_of k) (all_own k l h)
 
 -- whether there is no place
 abbrev has_no_place : List Place → Bool

@@ -8,11 +8,11 @@ use crate::kind::Kind;
 use crate::pattern::{Pattern, Role};
 use crate::slots::{JumpTarget, Slot};
 
-// What a ? field holds where the operand is absent or a constant.
+// What a ? field holds where the operand is absent or a constant. The sheet's own format: `Singles::present` reads it as an `Option`.
 pub const ABSENT: u32 = u32::MAX;
 
 // An instruction: its kind, and its fields where they stand in a sheet, as many as its kind may have.
-#[derive(Clone, Copy)]
+#[derive(Clone, Copy, PartialEq, Eq, Debug)]
 pub struct Instruction<'a> {
     pub kind: Kind,
     pub fields: &'a [[u8; 4]],

@@ -10,7 +10,7 @@ use crate::pattern::{Pattern, Role};
 use crate::slots::{JumpTarget, Slot};
 
 // The operands of one class among the single fields, from field `next` on: those of role `always`, and those of role `maybe` that are not absent.
-#[derive(Clone, Copy)]
+#[derive(Clone, Copy, PartialEq, Eq, Debug)]
 pub struct Singles<'a> {
     pattern: Pattern,
     fields: &'a [[u8; 4]],
@@ -23,14 +23,14 @@ pub struct Singles<'a> {
 }
 
 // The slots that an instruction reads, in order: those of `Rest` before the single ones.
-#[derive(Clone, Copy)]
+#[derive(Clone, Copy, PartialEq, Eq, Debug)]
 pub struct Inputs<'a> {
     rest: &'a [[u8; 4]],
     singles: Singles<'a>,
 }
 
 // The instructions that it names as targets, in order.
-#[derive(Clone, Copy)]
+#[derive(Clone, Copy, PartialEq, Eq, Debug)]
 pub struct Targets<'a>(Singles<'a>);
 
 impl<'a> Singles<'a> {

@@ -22,7 +22,7 @@ pub enum Role {
 }
 
 // How many single fields a record has, and the roles of its first four. From field 3 on the role stays the same: only `Rest` goes on so far.
-#[derive(Clone, Copy)]
+#[derive(Clone, Copy, PartialEq, Eq, Debug)]
 struct Row(u8, Role, Role, Role, Role);
 
 // The patterns of kinds 1 to 41, in their order: document 01's list. A `match` by groups was tried: reading operands took half as long again.
@@ -112,7 +112,7 @@ static PATTERNS: [Row; 41] = [
 ];
 
 // The pattern of a kind: how many single fields its record has, and the roles of the first four fields.
-#[derive(Clone, Copy)]
+#[derive(Clone, Copy, PartialEq, Eq, Debug)]
 pub struct Pattern {
     pub kind: Kind,
     pub single: usize,
@@ -126,7 +126,7 @@ pub struct Pattern {
 }
 
 impl Pattern {
-    // The pattern of a kind.
+    // The pattern of a kind. It is looked up in the table and not made from the kind: `Pattern::from(kind)` would say less.
     pub fn of(kind: Kind) -> Pattern
         ensures kind { result.kind ≡ kind }
         ensures single { result.single ≡ fixed_at (kind_number kind) }

@@ -46,6 +46,7 @@ impl TryFrom<u32> for ModuleSlot {
     }
 }
 
+// `index` stands three times, a line each: `usize: From<..>` would be three impls too, and say less where a row is indexed.
 impl Slot {
     pub fn index(self) -> usize
         ensures { result ≡ self.0 }

@@ -1,5 +1,6 @@
 // The operand functions for hosts in C and Rust. An instruction is a kind and the bytes of its fields; each answer is a number, and
-// 18,446,744,073,709,551,615 where there is none: no such kind, bytes that do not fit its pattern, or no such operand.
+// 18,446,744,073,709,551,615 where there is none: no such kind, bytes that do not fit its pattern, or no such operand. C has no `Option` and no
+// type of its own for a kind, so that `kind` is a number too, and each operand has an export of its own.
 #![tactic(auto)]
 
 ghost use Rattle.std.specs.Prelude.{◌≡◌, ◌≤◌};

@@ -8,7 +8,7 @@ use operands::kind::Kind;
 use records::record;
 
 // A sheet and a position in it. Each method reads a record there: if it passes, the reader stands behind it, else where it stood.
-#[derive(Clone, Copy)]
+#[derive(Clone, Copy, PartialEq, Eq, Debug)]
 pub struct Reader<'a> {
     pub sheet: &'a [u8],
     pub at: usize,

@@ -4,7 +4,7 @@ use budget::{FlowBudget, Limits};
 use std::io;
 
 // What is handed in. A call with limits is one of `verify_within`.
-#[derive(Clone, Copy)]
+#[derive(Clone, Copy, PartialEq, Eq, Debug)]
 pub struct Call<'a> {
     pub sheet: &'a [u8],
     pub budget: FlowBudget,

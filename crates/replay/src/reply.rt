@@ -9,7 +9,7 @@ pub fn unread(rt: &impl Print, name: &str) -> io::Result<()> {
 }
 
 // What a call answered and left, with the limits of one that has them.
-#[derive(Clone, Copy)]
+#[derive(Clone, Copy, PartialEq, Eq, Debug)]
 pub struct Reply<'a> {
     pub name: &'a str,
     pub answer: Answer,
@@ -44,7 +44,7 @@ impl fmt::Display for Reply<'_> {
 }
 
 // Words in hexadecimal, each after a blank.
-#[derive(Clone, Copy)]
+#[derive(Clone, Copy, PartialEq, Eq, Debug)]
 struct Words<'a>(&'a [u64]);
 
 impl fmt::Display for Words<'_> {

@@ -5,7 +5,7 @@ use std::str;
 use std::str::Split;
 
 // A call, and how much is to be lent to it.
-#[derive(Clone, Copy)]
+#[derive(Clone, Copy, PartialEq, Eq, Debug)]
 pub struct Request<'a> {
     pub call: Call<'a>,
     pub records: usize,
@@ -15,7 +15,7 @@ pub struct Request<'a> {
 
 impl<'a> Request<'a> {
     // What stands behind a name: the budget, the limits if they are handed in, the lengths and the sheet, each after one blank. The sheet's bytes
-    // are put into the room.
+    // are put into the room. Whether there are limits is known from the front of the line, before there is anything that an `Option` could hold.
     pub fn read(text: &[u8], is_within: bool, room: &'a mut [u8]) -> Option<Request<'a>> {
         let mut fields = str::from_utf8(text).ok()?.split(' ');
         let budget = FlowBudget {

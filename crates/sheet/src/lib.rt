@@ -88,7 +88,7 @@ fn check_rest(id: u32, counts: Counts, mut reader: Reader<'_>) -> Result<Script,
     })
 }
 
-// The sheet checks, 1 to 9 and 17.
+// The sheet checks, 1 to 9 and 17. Document 01 says the id of a refusal: 0 until the function record has passed, so it is no `Option`.
 pub fn check(s: &[u8]) -> Result<Script, Refused>
     ensures { Checks s.now result }
 {

@@ -2,7 +2,7 @@
 use format::refusal::Refusal;
 
 // A sheet that passed.
-#[derive(Clone, Copy)]
+#[derive(Clone, Copy, PartialEq, Eq, Debug)]
 pub struct Script {
     // the function's id, how many slots it has, and how many instructions
     pub id: u32,

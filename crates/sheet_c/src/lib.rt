@@ -7,7 +7,8 @@ ghost use Rattle.sheet_c.specs.Exports.{facts_of};
 
 use sheet::script::{Refused, Script};
 
-// Number 0 and what the engine has to know of the sheet; or the number of the refusal, with the function's id alone.
+// Number 0 and what the engine has to know of the sheet; or the number of the refusal, with the function's id alone. C has no `Result`, so number 0
+// says that the sheet passed, and the rest is 0 where it did not.
 #[repr(C)]
 #[derive(Clone, Copy, PartialEq, Eq, Debug)]
 pub struct SheetFacts {

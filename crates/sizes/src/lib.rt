@@ -10,7 +10,8 @@ use budget::{FlowBudget, Limits, OverFacts, OverWork};
 use format::refusal::Refusal;
 use sheet::script::Script;
 
-// The numbers that fix both layouts: instructions, blocks, words a set, awaits, and how many edges there may be past two a block.
+// The numbers that fix both layouts: instructions, blocks, words a set, awaits, and how many edges there may be past two a block. A plain record, since
+// definitions make one of any numbers: `run::terms::Terms` is one that a script can have.
 #[derive(Clone, Copy, PartialEq, Eq, Debug)]
 pub struct Layout {
     pub instructions: usize,
