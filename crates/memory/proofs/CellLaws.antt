@@ -11,7 +11,7 @@ use lib.Seq.{get_or-set_same, get_or-set_other, set_out, set-set, ext_get_or, dr
 use Rattle.bitset.specs.Sets.{Words}
 use Rattle.bitset.specs.Rows.{row, patched}
 use Rattle.bitset.proofs.RowLaws.{length-row, row_same, row_apart, words_row}
-use Rattle.memory.specs.Cells.{Mem, cells, total, cell, word, store_cell, store}
+use Rattle.memory.specs.Cells.{Mem, cells, total, cell, word, store_cell, store, Sized}
 
 -- ---- where a cell lies: it begins behind the cells before it, and is as wide as its width says
 abbrev pub start : List ℕ → ℕ → ℕ
@@ -128,10 +128,6 @@ store_then m k x f h same e =
     ∙ ap (store_cell m k) (ap (f (store_cell m k x)) (cell-store_same m k x h) ∙ same)
 
 -- ---- cells of these widths, however they came about: a store keeps them so
-pub record Sized (ns : List ℕ) (m : Mem) : Type 0 where
-  pub count : length m ≡ length ns
-  pub wide : (k : ℕ) → length (cell m k) ≡ width ns k
-
 pub sized : (ns l : List ℕ) → total ns ≤ length l → Sized ns (cells ns l)
 sized ns l h = record { count = length-cells ns l; wide = λ k. cell-length ns l k h }
 

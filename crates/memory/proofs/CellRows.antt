@@ -2,16 +2,16 @@
 use mathlib.Core.Logic.{◌≢◌}
 use mathlib.Core.Path.{◌≡◌, refl, sym, ap, ap₂, ◌∙◌}
 use mathlib.Core.List.{List, ◌++◌, append_assoc}
-use Prim.Native.Nat.{ℕ, ◌+◌, ◌-◌, ◌≤◌, ◌<◌}
+use Prim.Native.Nat.{ℕ, ◌+◌, ◌-◌, ◌/◌, ◌≤◌, ◌<◌}
 use native.Mathlib.Omega.{arith}
 use lib.Bits.{bit_and, bit_or}
 use lib.ListN.{length, take, drop, get_or, set, length-set}
 use lib.Seq.{drop-drop, paste}
-use Rattle.bitset.specs.Sets.{ones}
-use Rattle.bitset.specs.Operations.{join, difference}
+use Rattle.bitset.specs.Sets.{ones, member}
+use Rattle.bitset.specs.Operations.{inserted, removed, zipped, join, difference}
 use Rattle.bitset.specs.Rows.{row, patched, Apart}
-use Rattle.bitset.proofs.SetLaws.{length-zipped}
-use Rattle.bitset.proofs.RowLaws.{length-row, get_or-row, set-row}
+use Rattle.bitset.proofs.SetLaws.{length_inserted, length_removed, length-zipped}
+use Rattle.bitset.proofs.RowLaws.{length-row, get_or-row, set-row, member-row, inserted_at, removed_at, inserted_row, removed_row}
 use Rattle.memory.specs.Cells.{cells, total, cell, word, store_cell, store, Covers}
 use Rattle.memory.proofs.CellLaws.{start, width, cell-fits, cells-apart, cell_row, cells-patched}
 
@@ -47,6 +47,19 @@ module _ {ns l : List ℕ} {k base w : ℕ} (p : Lies ns l k base w) where
     pub lies_stored : (v : ℕ) → cells ns (set l (base + i) v) ≡ store (cells ns l) k i v
     lies_stored v = lies_changed (λ x. set x i v) (λ x. length-set x i v) (set-row l base w i v lies_fits h)
 
+  -- one slot
+  module _ (slot : ℕ) (h : slot / 64 < w) where
+    pub lies_member : member (drop base l) slot ≡ member (cell (cells ns l) k) slot
+    lies_member = member-row l base w slot h ∙ ap (λ (x : List ℕ). member x slot) lies_row
+
+    pub lies_inserted : {l' : List ℕ} → l' ≡ inserted_at l base slot → cells ns l' ≡ store_cell (cells ns l) k (inserted (cell (cells ns l) k) slot)
+    lies_inserted e =
+        lies_changed (λ x. inserted x slot) (λ x. length_inserted x slot) (e ∙ inserted_row l base w slot lies_fits h)
+
+    pub lies_removed : {l' : List ℕ} → l' ≡ removed_at l base slot → cells ns l' ≡ store_cell (cells ns l) k (removed (cell (cells ns l) k) slot)
+    lies_removed e =
+        lies_changed (λ x. removed x slot) (λ x. length_removed x slot) (e ∙ removed_row l base w slot lies_fits h)
+
 -- a cell by the range of its words, in the forms that the code has: `&l[start..end]`, and l after a write to `&mut l[start..end]`
 module _ {ns : List ℕ} (l : List ℕ) {k w n start end : ℕ} (c : Covers ns k w n start end) (wide : width ns k ≡ w) (room : total ns ≤ length l) where
   pub covers_lies : Lies ns l k start w
@@ -75,6 +88,14 @@ module _ {ns : List ℕ} (l : List ℕ) {k w n start end : ℕ} (c : Covers ns k
       long : length (row l start w) ≡ w
       long = length-row l start w (lies_fits covers_lies)
 
+-- with a cell of the same or of other words
+module _ {ns l ms t : List ℕ} {j k d s w : ℕ} (p : Lies ns l j d w) (q : Lies ms t k s w) where
+  pub lies_zipped : (f : ℕ → ℕ → ℕ) {l' : List ℕ} → l' ≡ patched l d (zipped f (row l d w) (row t s w))
+      → cells ns l' ≡ store_cell (cells ns l) j (zipped f (cell (cells ns l) j) (cell (cells ms t) k))
+  lies_zipped f e =
+      lies_changed p (λ x. zipped f x (row t s w)) (λ x. length-zipped f x (row t s w)) e
+      ∙ ap (λ (x : List ℕ). store_cell (cells ns l) j (zipped f (cell (cells ns l) j) x)) (lies_row q)
+
 -- two cells of the same words
 module _ {ns l : List ℕ} {j k d s w : ℕ} (p : Lies ns l j d w) (q : Lies ns l k s w) where
   -- have none in common
@@ -83,9 +104,7 @@ module _ {ns l : List ℕ} {j k d s w : ℕ} (p : Lies ns l j d w) (q : Lies ns 
 
   -- one takes in what is in the other
   pub lies_joined : cells ns (patched l d (join (row l d w) (row l s w))) ≡ store_cell (cells ns l) j (join (cell (cells ns l) j) (cell (cells ns l) k))
-  lies_joined =
-      lies_changed p (λ x. join x (row l s w)) (λ x. length-zipped bit_or x (row l s w)) refl
-      ∙ ap (λ (x : List ℕ). store_cell (cells ns l) j (join (cell (cells ns l) j) x)) (lies_row q)
+  lies_joined = lies_zipped p q bit_or refl
 
 -- three: one loses what is in the second and then takes in what is in the third
 module _ {ns l : List ℕ} {d k j a b c w : ℕ} (p : Lies ns l d a w) (q : Lies ns l k b w) (r : Lies ns l j c w) where

@@ -2,6 +2,9 @@
 pub mod CellLaws
 pub mod CellRows
 pub mod ScratchLaws
+pub mod NamedLaws
+pub mod BackedLaws
 pub mod SetsLaws
 pub mod FrameLaws
 pub mod EdgeLaws
+pub mod WordLaws

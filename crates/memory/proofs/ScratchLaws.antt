@@ -2,19 +2,22 @@
 use mathlib.Core.Path.{◌≡◌, refl, sym, ap, ap₂, ◌∙◌}
 use mathlib.Core.List.{List, ◌++◌}
 use Prim.Native.Nat.{ℕ, ◌+◌, ◌-◌, ◌*◌, ◌^◌, ◌≤◌, ◌<◌}
-use native.Mathlib.Omega.{arith}
+use Rattle.std.proofs.Common.{arith, rules}
 use lib.Seq.{paste}
 use lib.ListN.{length, take, drop, get_or, set, replicate, length-replicate, get_or-replicate, length-take, length-drop}
 use Rattle.bitset.specs.Sets.{Words}
 use Rattle.bitset.specs.Operations.{join, difference}
 use Rattle.bitset.specs.Rows.{row, patched, Apart}
 use Rattle.sizes.specs.declared.Layout.{Layout}
-use Rattle.memory.specs.Cells.{Mem, total, cell, word, store, store_cell, Covers}
+use Rattle.memory.specs.Cells.{Mem, total, cell, word, store, store_cell, Covers, Sized, InWords}
 use Rattle.memory.specs.Scratch.{edge_words, scratch_widths, scratch_cells, scratch, Room, Place, Row}
 use Rattle.sizes.specs.Sizes.{scratch_words}
 use Rattle.memory.proofs.CellLaws.{start, width, cell-fits, length-cells, cell_row, cell-words, word-store_same}
-use Rattle.memory.proofs.CellLaws.{Sized, sized, total-append, total-equal, start-equal, start_in, start_past, width_in, width_past}
+use Rattle.memory.proofs.CellLaws.{sized, total-append, total-equal, start-equal, start_in, start_past, width_in, width_past}
 use Rattle.memory.proofs.CellRows.{Lies, lies_word, lies_stored, covers_lies, covers_row, covers_put, covers_copied, lies_apart, lies_joined, lies_replaced}
+
+product : {a b m n : ℕ} → a ≤ m → b ≤ n → a * b ≤ m * n
+product h g = search rules
 
 module _ (y : Layout) where
   abbrev rows : List ℕ
@@ -54,6 +57,13 @@ module _ (y : Layout) where
   -- each cell lies within that size (`cells-apart`: and no two have a word in common)
   pub scratch_fits : (k : ℕ) → start (scratch_widths y) k + width (scratch_widths y) k ≤ scratch_words y
   scratch_fits k = omega (arith, cell-fits (scratch_widths y) k, scratch_total)
+
+  -- no buffer of these sizes is larger than numbers reach
+  pub words_below : y.instructions ≤ 65536 → y.blocks ≤ 65536 → y.words ≤ 1024 → y.extra ≤ 16777216 → scratch_words y < 2 ^ 40
+  words_below n b w x =
+      let row : 4 * y.words + 16 ≤ 4112 = omega (arith, w) in
+      let rows : y.blocks * (4 * y.words + 16) ≤ 65536 * 4112 = product b row in
+      omega (arith, n, w, x, rows)
 
   module _ (k : ℕ) where
     -- ---- how wide cell k is
@@ -165,6 +175,10 @@ module _ {y : Layout} (l : List ℕ) (room : Room y (length l)) where
   unfolding scratch
   scratch_sized = sized (scratch_widths y) l enough
 
+  pub scratch_in_words : ((i : ℕ) → get_or l i 0 < 2 ^ 64) → InWords (scratch y l)
+  unfolding scratch
+  scratch_in_words f k i = (cell-words (scratch_widths y) l k f enough).fits i
+
   pub place_inside : {k i : ℕ} → Place y k i → start (scratch_widths y) k + i < length l
   place_inside {k} p = omega (arith, scratch_fits y k)
 
@@ -254,11 +268,5 @@ grown y y' l k e h =
     ∙ ap₂ (row l) (start_instructions y k h ∙ ap (λ (n : ℕ). k * n) e ∙ sym (start_instructions y' k h))
     (width_instructions y k h ∙ e ∙ sym (width_instructions y' k h)) ∙ sym (cell_row (scratch_widths y') l k)
 
--- what functions cite: how wide the cells are that are no rows, and where they begin; a word by its place; a whole cell by the range of its words
-pub ruleset widths = (width_instructions, width_blocks, width_successors, width_links)
-
+-- what functions cite: where the cells that are no rows begin
 pub ruleset starts = (start_instructions, start_blocks, start_edges)
-
-pub ruleset placed = (place_inside, place_word, place_store)
-
-pub ruleset ranged = (scratch_fits, cell_long, cell_put, cell_copied, row_is, row_long, row_put, row_copied, rows_joined, rows_replaced)

@@ -6,10 +6,10 @@ use native.Mathlib.Omega.{arith}
 use lib.ListN.{length, take, drop, get_or, set, drop_of_length-le, replicate, length-replicate, get_or-replicate, length-append, length-take, length-drop}
 use Rattle.bitset.specs.Sets.{Words}
 use Rattle.sizes.specs.declared.Layout.{Layout}
-use Rattle.memory.specs.Cells.{total, cell, store_cell, Covers}
+use Rattle.memory.specs.Cells.{total, cell, store_cell, Covers, Sized, InWords}
 use Rattle.memory.specs.Sets.{sets_widths, sets, SetsRoom, SetsRow, AwaitEntry}
 use Rattle.sizes.specs.Sizes.{sets_words}
-use Rattle.memory.proofs.CellLaws.{start, width, cell-fits, length-cells, cell-words, Sized, sized}
+use Rattle.memory.proofs.CellLaws.{start, width, cell-fits, length-cells, cell-words, sized}
 use Rattle.memory.proofs.CellLaws.{total-append, total-equal, start-equal, start_in, start_past, width_in, width_past}
 use Rattle.memory.proofs.CellRows.{covers_row, covers_put}
 
@@ -75,6 +75,10 @@ module _ {y : Layout} (l : List ℕ) (room : SetsRoom y (length l)) where
   unfolding sets
   sets_sized = sized (sets_widths y) l enough
 
+  pub sets_in_words : ((i : ℕ) → get_or l i 0 < 2 ^ 64) → InWords (sets y l)
+  unfolding sets
+  sets_in_words f k i = (cell-words (sets_widths y) l k f enough).fits i
+
   module _ {k : ℕ} (r : SetsRow y k) where
     -- row k by the range of its words
     module _ {start end : ℕ} (c : Covers (sets_widths y) k y.words (sets_words y) start end) where
@@ -114,6 +118,3 @@ module _ {y : Layout} (l : List ℕ) (room : SetsRoom y (length l)) where
     pub await_words_lem : ((i : ℕ) → get_or l i 0 < 2 ^ 64) → Words (1 + y.words) (cell (sets y l) k)
     unfolding sets
     await_words_lem f = rw (width_await y k r) at (cell-words (sets_widths y) l k f enough)
-
--- what a function cites that reads or writes whole cells of the sets buffer by the ranges of their words
-pub ruleset sets_ranged = (sets_row_is, sets_row_long, sets_row_put, entry_long, entry_put)

@@ -1,6 +1,6 @@
 -- A slice of words as a list of cells, by the cells' widths. Reading and writing a cell is reading and writing a list of lists, so that a
 -- contract is one equation that says both what changed and that nothing else did.
-use Rattle.std.specs.Prelude.{◌≡◌, List, [], ◌∷◌, ℕ, ◌+◌, ◌≤◌, get_or, set, take, drop}
+use Rattle.std.specs.Prelude.{◌≡◌, List, [], ◌∷◌, ℕ, ◌+◌, ◌^◌, ◌≤◌, ◌<◌, length, get_or, set, take, drop}
 
 -- cells, each a list of words
 abbrev pub Mem : Type 0
@@ -37,3 +37,12 @@ store_cell m k ws = set m k ws
 -- the cells with the number v in word i of cell k
 abbrev pub store : Mem → ℕ → ℕ → ℕ → Mem
 store m k i v = set m k (set (cell m k) i v)
+
+-- there are as many cells as widths, and each is so wide
+pub record Sized (ns : List ℕ) (m : Mem) : Type 0 where
+  pub count : length m ≡ length ns
+  pub wide : (k : ℕ) → length (cell m k) ≡ get_or ns k 0
+
+-- what stands in each cell are words of 64 bits
+abbrev pub InWords : Mem → Type 0
+InWords m = (k i : ℕ) → word m k i < 2 ^ 64

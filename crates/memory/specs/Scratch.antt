@@ -1,8 +1,9 @@
 -- The layout of scratch: document 01's words, as cells.
-use Rattle.std.specs.Prelude.{List, ◌++◌, ℕ, ◌+◌, ◌*◌, ◌≤◌, ◌<◌, get_or, replicate}
-use Rattle.memory.specs.Cells.{Mem, cells}
-use Rattle.memory.specs.Names.{first_row, start_cell, successor_cell}
+use Rattle.std.specs.Prelude.{◌≡◌, List, ◌++◌, ℕ, ◌+◌, ◌*◌, ◌≤◌, ◌<◌, get_or, replicate}
+use Rattle.memory.specs.Cells.{Mem, cells, Sized}
+use Rattle.memory.specs.Names.{first_row}
 use Rattle.sizes.specs.declared.Layout.{Layout}
+use Rattle.run.specs.Terms.{Loan}
 use Rattle.sizes.specs.Sizes.{scratch_words}
 
 -- how many edges there may be: two a block, and the extra ones
@@ -24,6 +25,10 @@ scratch_cells y = 22 + 4 * y.blocks
 unfoldable pub scratch : Layout → List ℕ → Mem
 scratch y l = cells (scratch_widths y) l
 
+-- each cell of scratch is there, as wide as the layout says
+abbrev pub Whole : Layout → Mem → Type 0
+Whole y m = Sized (scratch_widths y) m
+
 -- the sizes are those of a sheet that passed (instructions and blocks at most 65,536, words at most 1,024), and scratch holds n words, enough
 pub record Room (y : Layout) (n : ℕ) : Type 0 where
   pub instructions : y.instructions ≤ 65536
@@ -37,12 +42,14 @@ pub record Place (y : Layout) (k i : ℕ) : Type 0 where
   pub among : k < scratch_cells y
   pub inside : i < get_or (scratch_widths y) k 0
 
--- cell k has a word a block
-pub record BlockCell (k : ℕ) : Type 0 where
-  pub low : start_cell ≤ k
-  pub high : k < successor_cell
-
 -- cell k is a row of w words
 pub record Row (y : Layout) (k : ℕ) : Type 0 where
   pub low : first_row ≤ k
   pub high : k < scratch_cells y
+
+-- n words, whose borrow has this name, are those that were lent for scratch; they have the run's layout, and are enough for it
+pub record Backs (y own : Layout) (loan : Loan) (name n : ℕ) : Type 0 where
+  pub same : own ≡ y
+  pub named : name ≡ loan.name
+  pub long : n ≡ loan.length
+  pub room : Room own n

@@ -1,7 +1,8 @@
 -- The layout of the sets buffer: document 01's words, as cells.
-use Rattle.std.specs.Prelude.{List, ◌++◌, ℕ, ◌+◌, ◌*◌, ◌≤◌, ◌<◌, replicate}
-use Rattle.memory.specs.Cells.{Mem, cells}
+use Rattle.std.specs.Prelude.{◌≡◌, List, ◌++◌, ℕ, ◌+◌, ◌*◌, ◌≤◌, ◌<◌, replicate}
+use Rattle.memory.specs.Cells.{Mem, cells, Sized}
 use Rattle.sizes.specs.declared.Layout.{Layout}
+use Rattle.run.specs.Terms.{Loan}
 use Rattle.sizes.specs.Sizes.{sets_words}
 
 -- per block its initialized row and its live row; then per await its instruction and live words
@@ -11,6 +12,10 @@ sets_widths y = replicate (2 * y.blocks) y.words ++ replicate y.awaits (1 + y.wo
 -- the words of the sets buffer as cells
 unfoldable pub sets : Layout → List ℕ → Mem
 sets y l = cells (sets_widths y) l
+
+-- each cell of the sets buffer is there, as wide as the layout says
+abbrev pub SetsWhole : Layout → Mem → Type 0
+SetsWhole y t = Sized (sets_widths y) t
 
 -- the sizes are those of a sheet that passed, and the sets buffer holds n words, enough
 pub record SetsRoom (y : Layout) (n : ℕ) : Type 0 where
@@ -27,3 +32,10 @@ SetsRow y k = k < 2 * y.blocks
 pub record AwaitEntry (y : Layout) (k : ℕ) : Type 0 where
   pub low : 2 * y.blocks ≤ k
   pub high : k < 2 * y.blocks + y.awaits
+
+-- n words, whose borrow has this name, are those that were lent for the sets; they have the run's layout, and are enough for it
+pub record SetsBack (y own : Layout) (loan : Loan) (name n : ℕ) : Type 0 where
+  pub same : own ≡ y
+  pub named : name ≡ loan.name
+  pub long : n ≡ loan.length
+  pub room : SetsRoom own n

@@ -1,7 +1,9 @@
-// Lent words as cells: only this crate knows where a cell lies. Contracts speak of `scratch y words` and `sets y words`, the cells of the two
-// buffers under a layout.
+// Lent words as cells: only this crate knows where a cell lies. A contract sees either buffer as its cells; the layout that they have is the run's.
 #![tactic(auto)]
 
+pub mod buffer;
 pub mod edges;
-pub mod layout;
+mod layout;
+pub mod names;
 pub mod scratch;
+pub mod sets;

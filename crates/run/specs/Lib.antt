@@ -1,0 +1,2 @@
+-- What stays the same while one script is judged.
+pub mod Terms
