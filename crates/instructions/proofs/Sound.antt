@@ -39,6 +39,7 @@ use Rattle.sheet.specs.Scripts.{awaits_in, script_of, checked_of}
 use Rattle.sheet.proofs.Checked.{clean, each_none, sized, offset_up, passed}
 use Rattle.sheet.proofs.WordLaws.{few_words, behind-words}
 use Rattle.bitset.specs.Below.{AllBelow}
+use Rattle.instructions.specs.declared.checked.Sheet.{Sheet}
 use Rattle.instructions.specs.Sound.{Sound}
 use Rattle.instructions.proofs.Operands.{no_field_at, inputs_ok, output_ok, targets_ok}
 use Rattle.instructions.proofs.SlotLaws.{no_host}
@@ -153,3 +154,7 @@ sound s x e =
 -- the same from what `check` ensures
 pub sound-checked : (s : List ℕ) (r : Result Script Refused) (x : Script) → Checks s r → r ≡ Ok x → Sound s x
 sound-checked s r x c e = sound s x (sym c.answer ∙ e)
+
+-- so a sheet that passed is
+pub passed_sound : (x : Sheet) → Sound x.bytes.now x.script
+passed_sound x = sound x.bytes.now x.script x.passed

@@ -3,3 +3,4 @@ pub mod Placed
 pub mod Slots
 pub mod Sets
 pub mod Sound
+pub mod Sheets

@@ -6,7 +6,7 @@ use operands::instruction::Instruction;
 use operands::kind::Kind;
 
 // Its kind and its fields, which need not fit each other yet.
-#[derive(Clone, Copy)]
+#[derive(Clone, Copy, PartialEq, Eq, Debug)]
 pub struct Placed<'a> {
     pub kind: Kind,
     pub fields: &'a [[u8; 4]],

@@ -18,7 +18,7 @@ pub struct SlotRecord {
     pub next: usize,
 }
 
-// What the row of host slots needs of a record.
+// What the row of host slots needs of a record. It is no `SlotRecord`, whose type the shortcut in `host_at` does not read.
 #[derive(Clone, Copy, PartialEq, Eq, Debug)]
 pub struct HostSlot {
     pub host: bool,

@@ -7,7 +7,7 @@ use native.Mathlib.Decide.{ℕ_discrete}
 use native.Mathlib.Numerals.{add-one}
 use native.Mathlib.Omega.{arith}
 use lib.Dec.{eqb}
-use lib.ListN.{length, length-map, get_or, replicate, length-replicate, get_or-replicate}
+use lib.ListN.{length, length-map, replicate, length-replicate, get_or-replicate}
 use borrow.Author.Tests.{eq-eqb, ne_eqb, eqb-true}
 use Rattle.dataflow.specs.Lists.{range, some, elem, flag}
 use Rattle.dataflow.specs.Code.{Instruction, outside, instruction_at, leader}
@@ -21,8 +21,9 @@ use Rattle.operands.specs.Instructions.{values_of, targets_in}
 use Rattle.operands.specs.declared.instruction.Instruction as operands
 use Rattle.memory.specs.Cells.{Mem, cell, word, store, store_cell}
 use Rattle.memory.specs.Names.{block_of_cell, offset_cell}
-use Rattle.memory.specs.Scratch.{scratch_widths}
-use Rattle.memory.proofs.CellLaws.{Sized, same_word, sized-store, sized-cell, cell-store_other, word-cell_same, word-cell_other, word-store_other}
+use Rattle.memory.specs.Scratch.{scratch_widths, Whole}
+use Rattle.sizes.specs.declared.Layout.{Layout}
+use Rattle.memory.proofs.CellLaws.{same_word, sized-store, sized-cell, cell-store_other, word-cell_same, word-cell_other, word-store_other}
 use Rattle.memory.proofs.ScratchLaws.{word_put, place_instructions, width_instructions, sized_among}
 use Rattle.sheet.specs.declared.script.Script.{Script}
 use Rattle.sheet.specs.Decode.{parts_of}
@@ -30,7 +31,7 @@ use Rattle.sheet.specs.Decode as sheet
 use Rattle.budget.specs.declared.FlowBudget.{FlowBudget}
 use Rattle.budget.specs.declared.Limits.{Limits}
 use Rattle.std.specs.Prelude.{Ok}
-use Rattle.budget.specs.Budget.{Charged, over, charged}
+use Rattle.budget.specs.Budget.{over, charged}
 use Rattle.budget.proofs.BudgetLaws.{ones-crossed, over-not_ok}
 use Rattle.instructions.specs.declared.placed.Placed.{Placed}
 use Rattle.instructions.specs.Placed.{IsPlaced}
@@ -56,7 +57,7 @@ marking-none b = record {
 
 module _ (s : List ℕ) (x : Script) (h : Sound s x) where
   -- one instruction more
-  marking-more : (m m' m₁ m₂ : Mem) (i at : ℕ) → Marking s x m m' i → Sized (scratch_widths (marking x)) m' → i < x.count → at ≡ code_offset s x i
+  marking-more : (m m' m₁ m₂ : Mem) (i at : ℕ) → Marking s x m m' i → Whole (marking x) m' → i < x.count → at ≡ code_offset s x i
       → m₁ ≡ store m' offset_cell i at
       → m₂ ≡ marked_by (ends_block (code_kind s x i)) (targets_of (code_kind s x i) (code_values s x i)) x.count i m₁
       → Marking s x m m₂ (i + 1)
@@ -78,8 +79,8 @@ module _ (s : List ℕ) (x : Script) (h : Sound s x) where
       ts : List ℕ
       ts = targets_of (code_kind s x i) (code_values s x i)
 
-      z₁ : Sized (scratch_widths (marking x)) m₁
-      z₁ = subst (λ (w : Mem). Sized (scratch_widths (marking x)) w) (sym e₁) (sized-store (scratch_widths (marking x)) m' offset_cell i at z)
+      z₁ : Whole (marking x) m₁
+      z₁ = subst (Whole (marking x)) (sym e₁) (sized-store (scratch_widths (marking x)) m' offset_cell i at z)
 
       kept : (k : ℕ) → (k ≡ block_of_cell → ⊥) → cell m₂ k ≡ cell m₁ k
       kept k f = ap (λ (w : Mem). cell w k) e₂ ∙ marked_other ends ts x.count i m₁ k f
@@ -171,11 +172,12 @@ module _ {s : List ℕ} {x : Script} (h : Sound s x) where
       pub targets_at : i < x.count → AllBelow x.count (targets_in v)
       targets_at l = subst (λ (w : sheet.Instruction). AllBelow x.count (targets_of w.kind w.fields)) (sym read_is) (h.targets_below i l)
 
-      pub marking_placed : {m m' m₁ m₂ : Mem} → Marking s x m m' i → Sized (scratch_widths (marking x)) m' → i < x.count → m₁ ≡ store m' offset_cell i at
-          → m₂ ≡ marked_by (ends_block (kind_number v.kind)) (targets_in v) x.count i m₁ → Marking s x m m₂ (i + 1)
-      marking_placed {m} {m'} {m₁} {m₂} d z l e₁ e₂ =
-          marking-more s x h m m' m₁ m₂ i at d z l q e₁
-          (e₂ ∙ ap (λ (w : sheet.Instruction). marked_by (ends_block w.kind) (targets_of w.kind w.fields) x.count i m₁) read_is)
+      pub marking_placed : {y : Layout} {m m' m₁ m₂ : Mem} → y ≡ marking x → Marking s x m m' i → Whole y m' → i < x.count
+          → m₁ ≡ store m' offset_cell i at → m₂ ≡ marked_by (ends_block (kind_number v.kind)) (targets_in v) y.instructions i m₁ → Marking s x m m₂ (i + 1)
+      marking_placed {y} {m} {m'} {m₁} {m₂} a d z l e₁ e₂ =
+          marking-more s x h m m' m₁ m₂ i at d (subst (λ (w : Layout). Whole w m') a z) l q e₁
+          (e₂ ∙ ap (λ (w : Layout). marked_by (ends_block (kind_number v.kind)) (targets_in v) w.instructions i m₁) a
+          ∙ ap (λ (w : sheet.Instruction). marked_by (ends_block w.kind) (targets_of w.kind w.fields) x.count i m₁) read_is)
 
   -- a charge crosses the limit at instruction i
   pub leads_over : {l : Limits} {b left y : FlowBudget} {m m' : Mem} {i : ℕ} → Marking s x m m' i → i < x.count
@@ -197,30 +199,23 @@ module _ {s : List ℕ} {x : Script} (h : Sound s x) where
 
 -- ---- before the loop
 
-module _ (x : Script) {m m₁ m₂ : Mem} (z : Sized (scratch_widths (marking x)) m)
-    (e₁ : m₁ ≡ store_cell m block_of_cell (replicate (get_or (scratch_widths (marking x)) 1 0) 0)) (e₂ : m₂ ≡ store m₁ block_of_cell 0 1) where
-  width_is : get_or (scratch_widths (marking x)) 1 0 ≡ x.count
-  width_is = width_instructions (marking x) block_of_cell (omega arith)
+module _ (y : Layout) {m m₁ m₂ : Mem} (z : Whole y m) (e₁ : m₁ ≡ store_cell m block_of_cell (replicate y.instructions 0))
+    (e₂ : m₂ ≡ store m₁ block_of_cell 0 1) where
+  whole₁ : Whole y m₁
+  whole₁ = subst (Whole y) (sym e₁)
+      (sized-cell (scratch_widths y) m block_of_cell _ z (length-replicate y.instructions 0 ∙ sym (width_instructions y block_of_cell (omega arith))))
 
-  sized₁ : Sized (scratch_widths (marking x)) m₁
-  sized₁ = subst (λ (w : Mem). Sized (scratch_widths (marking x)) w) (sym e₁)
-      (sized-cell (scratch_widths (marking x)) m block_of_cell _ z (length-replicate (get_or (scratch_widths (marking x)) 1 0) 0))
-
-  pub begun : 1 ≤ x.count → Begun x m₂
-  begun h j l = go (ℕ_discrete j 0)
+  pub begun : (x : Script) → y ≡ marking x → 1 ≤ x.count → Begun x m₂
+  begun x q h j l = go (ℕ_discrete j 0)
     where
+      n : y.instructions ≡ x.count
+      n = ap (λ (w : Layout). w.instructions) q
+
       zero-at : word m₁ block_of_cell j ≡ 0
-      zero-at = ap (λ (w : Mem). word w block_of_cell j) e₁ ∙ word-cell_same m block_of_cell _ j (sized_among (marking x) z (omega arith))
-          ∙ get_or-replicate (get_or (scratch_widths (marking x)) 1 0) j 0 0 (omega (arith, width_is))
+      zero-at = ap (λ (w : Mem). word w block_of_cell j) e₁ ∙ word-cell_same m block_of_cell _ j (sized_among y z (omega arith))
+          ∙ get_or-replicate y.instructions j 0 0 (omega (arith, n))
 
       go : Dec (j ≡ 0) → word m₂ block_of_cell j ≡ flag (eqb j 0)
-      go (yes p) = ap (λ (w : Mem). word w block_of_cell j) e₂ ∙ rw (eq-eqb j 0 p) (rw p (word_put (marking x) sized₁ (place_instructions (marking x) block_of_cell 0 (omega arith) (omega arith)) 1))
+      go (yes p) = ap (λ (w : Mem). word w block_of_cell j) e₂
+          ∙ rw (eq-eqb j 0 p) (rw p (word_put y whole₁ (place_instructions y block_of_cell 0 (omega arith) (omega (arith, n))) 1))
       go (no p) = ap (λ (w : Mem). word w block_of_cell j) e₂ ∙ rw (ne_eqb j 0 p) (word-store_other m₁ block_of_cell 0 1 block_of_cell j (λ _. p) ∙ zero-at)
-
-  pub leads_from : {s : List ℕ} {l : Limits} {b : FlowBudget} {m' : Mem} {r : Charged} → Leads s x l b m₂ m' r → Leads s x l b m m' r
-  leads_from g = record {
-    charges = g.charges;
-    led = g.led;
-    others = λ k f f'. g.others k f f' ∙ ap (λ (w : Mem). cell w k) e₂ ∙ cell-store_other m₁ block_of_cell _ k f'
-        ∙ ap (λ (w : Mem). cell w k) e₁ ∙ cell-store_other m block_of_cell _ k f';
-  }

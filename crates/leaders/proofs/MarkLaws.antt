@@ -1,6 +1,6 @@
 -- Marking the leaders, instruction by instruction. Assumes nothing.
 use mathlib.Core.Logic.{◌≢◌}
-use mathlib.Core.Path.{◌≡◌, refl, sym, ap, ◌∙◌}
+use mathlib.Core.Path.{◌≡◌, refl, sym, ap, subst, ◌∙◌}
 use mathlib.Core.Bool.{Bool, true, false, ◌&&◌, ◌||◌, or-false, or_assoc}
 use mathlib.Core.List.{List, [], ◌∷◌, ◌++◌}
 use Prim.Native.Nat.{ℕ, suc, ◌+◌, ◌<◌}
@@ -14,9 +14,9 @@ use Rattle.dataflow.specs.Code.{Instruction}
 use Rattle.dataflow.proofs.Lists.{range_snoc}
 use Rattle.memory.specs.Cells.{Mem, cell, word, store}
 use Rattle.memory.specs.Names.{block_of_cell}
-use Rattle.memory.specs.Scratch.{scratch_widths}
+use Rattle.memory.specs.Scratch.{scratch_widths, Whole}
 use Rattle.sizes.specs.declared.Layout.{Layout}
-use Rattle.memory.proofs.CellLaws.{Sized, sized-store, cell-store_other, word-store_other}
+use Rattle.memory.proofs.CellLaws.{sized-store, cell-store_other, word-store_other}
 use Rattle.memory.proofs.ScratchLaws.{word_put, place_instructions}
 use Rattle.bitset.specs.Below.{AllBelow}
 use Rattle.leaders.specs.Leaders.{mark_all, mark_next, marked_by, leads, led_by}
@@ -25,7 +25,7 @@ use Rattle.leaders.specs.Leaders.{mark_all, mark_next, marked_by, leads, led_by}
 
 module _ (y : Layout) where
   -- one mark more
-  store-mark : (m : Mem) (t j : ℕ) → Sized (scratch_widths y) m → t < y.instructions
+  store-mark : (m : Mem) (t j : ℕ) → Whole y m → t < y.instructions
       → word (store m block_of_cell t 1) block_of_cell j ≡ pick (eqb j t) 1 (word m block_of_cell j)
   store-mark m t j z h = go (ℕ_discrete j t)
     where
@@ -33,12 +33,12 @@ module _ (y : Layout) where
       go (yes e) = rw (eq-eqb j t e) (rw e (word_put y z (place_instructions y block_of_cell t (omega arith) h) 1))
       go (no e) = rw (ne_eqb j t e) (word-store_other m block_of_cell t 1 block_of_cell j (λ _. e))
 
-  pub mark_all_sized : (js : List ℕ) (m : Mem) → Sized (scratch_widths y) m → Sized (scratch_widths y) (mark_all js m)
+  pub mark_all_sized : (js : List ℕ) (m : Mem) → Whole y m → Whole y (mark_all js m)
   unfolding mark_all
   mark_all_sized [] m z = z
   mark_all_sized (t ∷ js) m z = mark_all_sized js (store m block_of_cell t 1) (sized-store (scratch_widths y) m block_of_cell t 1 z)
 
-  mark-all_word : (js : List ℕ) (m : Mem) (j : ℕ) → Sized (scratch_widths y) m → AllBelow y.instructions js
+  mark-all_word : (js : List ℕ) (m : Mem) (j : ℕ) → Whole y m → AllBelow y.instructions js
       → word (mark_all js m) block_of_cell j ≡ pick (elem j js) 1 (word m block_of_cell j)
   unfolding mark_all
   mark-all_word [] m j z b = refl
@@ -52,7 +52,7 @@ module _ (y : Layout) where
       go false true = refl
       go false false = refl
 
-  mark-next_word : (i : ℕ) (m : Mem) (j : ℕ) → Sized (scratch_widths y) m → j < y.instructions
+  mark-next_word : (i : ℕ) (m : Mem) (j : ℕ) → Whole y m → j < y.instructions
       → word (mark_next y.instructions i m) block_of_cell j ≡ pick (eqb j (suc i)) 1 (word m block_of_cell j)
   unfolding mark_next
   mark-next_word i m j z h = go (dec_lt (i + 1) y.instructions)
@@ -63,7 +63,7 @@ module _ (y : Layout) where
       go (no l) = rw (le-ltb (i + 1) y.instructions (omega arith), ne_eqb j (suc i) (λ e. omega arith)) refl
 
   -- what one instruction marks
-  pub marked_word : (ends : Bool) (ts : List ℕ) (i : ℕ) (m : Mem) (j : ℕ) → Sized (scratch_widths y) m → AllBelow y.instructions ts → j < y.instructions
+  pub marked_word : (ends : Bool) (ts : List ℕ) (i : ℕ) (m : Mem) (j : ℕ) → Whole y m → AllBelow y.instructions ts → j < y.instructions
       → (f : Bool) → word m block_of_cell j ≡ flag f
       → word (marked_by ends ts y.instructions i m) block_of_cell j ≡ flag (f || (ends && (eqb j (suc i) || elem j ts)))
   marked_word false ts i m j z b h f e = e ∙ ap flag (sym (or-false f))
@@ -113,10 +113,11 @@ led-more code i j =
 -- ---- the targets one by one
 
 -- one target more
-pub targets-more : (t : ℕ) (l ts : List ℕ) (m : Mem) → l ≡ t ∷ ts → mark_all ts (store m block_of_cell t 1) ≡ mark_all l m
+pub targets_more : {t : ℕ} {l ts : List ℕ} (m : Mem) {r : Mem} → l ≡ t ∷ ts → mark_all l m ≡ r → mark_all ts (store m block_of_cell t 1) ≡ r
 unfolding mark_all
-targets-more t l ts m e = rw e refl
+targets_more m {r = r} e q = subst (λ (k : List ℕ). mark_all k m ≡ r) e q
 
-pub targets-all : (l : List ℕ) (m : Mem) → l ≡ [] → mark_all l m ≡ m
+-- none is left
+pub targets_all : {l : List ℕ} {m r : Mem} → l ≡ [] → mark_all l m ≡ r → m ≡ r
 unfolding mark_all
-targets-all l m e = rw e refl
+targets_all {m = m} {r = r} e q = subst (λ (k : List ℕ). mark_all k m ≡ r) e q

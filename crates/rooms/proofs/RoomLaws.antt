@@ -1,8 +1,8 @@
 -- What is known where neither 11 nor 10 is due, and the stages of the count. Assumes nothing.
-use mathlib.Core.Path.{◌≡◌, refl, sym, ap, ap₂, subst, ◌∙◌}
+use mathlib.Core.Path.{◌≡◌, refl, sym, ap, subst, ◌∙◌}
 use mathlib.Core.Bool.{Bool, false, ◌||◌}
 use mathlib.Core.List.{List, [], ◌∷◌}
-use Prim.Native.Nat.{ℕ, ◌*◌, ◌≤◌}
+use Prim.Native.Nat.{ℕ, ◌≤◌}
 use native.Mathlib.Omega.{arith}
 use lib.Dec.{ltb}
 use lib.ListN.{length, replicate}
@@ -28,12 +28,12 @@ use Rattle.instructions.specs.Sound.{Sound}
 use Rattle.script.specs.Script.{flow_code}
 use Rattle.script.proofs.ScriptLaws.{code_length}
 use Rattle.leaders.specs.Index.{Indexed, Fits}
-use Rattle.leaders.specs.Leaders.{marking, Led, Leads}
+use Rattle.leaders.specs.Leaders.{marking, Leads}
 use Rattle.leaders.specs.Numbers.{Numbered}
 use Rattle.leaders.proofs.BlockLaws.{blocks_are}
 use Rattle.leaders.proofs.IndexLaws.{indexed, indexed-grown, few_blocks}
 use Rattle.sizes.specs.declared.Lent.{Lent}
-use Rattle.rooms.specs.Rooms.{Indexes, Counted, Measured}
+use Rattle.rooms.specs.Rooms.{IndexBuilt, Indexes, Counted, Measured}
 use Rattle.sizes.specs.Stages.{Staged, stopped, rooms_of, if_met}
 use Rattle.sizes.proofs.StageLaws.{rooms_yes}
 
@@ -85,55 +85,45 @@ module _ (s : List ℕ) (x : Script) (h : Sound s x) (n : ℕ) (lent : Lent) (bl
       index = g;
     }
 
--- scratch has room for the marks
-pub marking-room : (s : List ℕ) (x : Script) → Sound s x → (n : ℕ) → 4 * x.count ≤ n → Room (marking x) n
-marking-room s x h n q = record { instructions = h.few_code; blocks = omega arith; words = omega arith; extra = omega arith; fits = omega arith }
-
 -- the charges of the first loop: one for each instruction
 pub first-charges : (s : List ℕ) (x : Script) → Sound s x → (l : Limits) (b : FlowBudget)
     → charged l b (replicate x.count 1) ≡ charged l b (leader_charges (flow_code (parts_of s)))
 first-charges s x h l b = ap (λ (k : ℕ). charged l b (replicate k 1)) (sym (code_length s x h))
+
+-- the index built over cells
+module _ {s : List ℕ} {x : Script} {l : Limits} {b : FlowBudget} {m m₁ : Mem} (h : Sound s x) where
+  pub charges_met : {r : Charged} → Leads s x l b m m₁ r → charged l b (leader_charges (flow_code (parts_of s))) ≡ r
+  charges_met g = sym (g.charges ∙ first-charges s x h l b)
+
+  pub built_on : {y : Layout} {m' : Mem} {left : FlowBudget} {n : ℕ} → y ≡ marking x → Leads s x l b m m₁ (Ok left) → Numbered y.instructions m₁ m' n
+      → IndexBuilt s x l b m' (Ok (n, left))
+  built_on {y} {m'} {left} {n} q g d =
+      let led = g.led left refl in
+      let d' : Numbered x.count m₁ m' n = subst (λ (z : Layout). Numbered z.instructions m₁ m' n) q d in
+      (charges_met g, blocks_are s x h m₁ led m' n d', indexed s x h m₁ m' led n d')
 
 module _ (s : List ℕ) (x : Script) (l : Limits) (lent : Lent) (b : FlowBudget) (w w' : List ℕ) where
   -- what follows the charges
   abbrev rooms : FlowBudget → Staged
   rooms = rooms_of l (layout_of x (block_count (flow_code (parts_of s)))) (length w) lent
 
-  -- a charge of the first loop crossed the limit
-  pub counted_over : (z : FlowBudget) → over z ≡ charged l b (leader_charges (flow_code (parts_of s))) → Counted s x l lent b w w' (stopped WorkLimit z)
-  counted_over z e = record {
-    answer = ap (λ (d : Charged). if_met d rooms) e;
-    indexes = λ y left q. absurd (IfOk-at_ok (λ _. ⊥) q tt);
-  }
-
-  -- all were met: the blocks are numbered, and the rooms decide
-  pub counted_on : Sound s x → (left : FlowBudget) (m m₁ : Mem) (blocks : ℕ) (r : Staged) → Leads s x l b m m₁ (Ok left)
-      → Numbered x.count m₁ (scratch (marking x) w') blocks → length w' ≡ length w → (y : Layout) (n : ℕ)
-      → y ≡ layout_of x blocks → n ≡ length w → r ≡ rooms_of l y n lent left → Counted s x l lent b w w' r
-  counted_on h left m m₁ blocks r leads g q y₀ n ey en e₀ = record {
-    answer = er ∙ ap (λ (k : ℕ). rooms_of l (layout_of x k) (length w) lent left) is
-        ∙ ap (λ (d : Charged). if_met d rooms) charges;
-    indexes = λ y left' e. yes_of y left' (rooms_yes l (layout_of x blocks) (length w) lent left y left' (sym er ∙ e));
+  -- all were met: the rooms decide
+  pub counted_on : {left : FlowBudget} {m : Mem} {blocks : ℕ} {r : Staged} → Sound s x → IndexBuilt s x l b m (Ok (blocks, left))
+      → scratch (marking x) w' ≡ m → length w' ≡ length w → r ≡ rooms_of l (layout_of x blocks) (length w) lent left → Counted s x l lent b w w' r
+  counted_on {left} {m} {blocks} {r} h g c q e₀ = record {
+    answer = e₀ ∙ ap (λ (k : ℕ). rooms_of l (layout_of x k) (length w) lent left) is ∙ ap (λ (d : Charged). if_met d rooms) (sym g.0);
+    indexes = λ y left' e. yes_of y left' (rooms_yes l (layout_of x blocks) (length w) lent left y left' (sym e₀ ∙ e));
   }
     where
-      er : r ≡ rooms_of l (layout_of x blocks) (length w) lent left
-      er = e₀ ∙ ap₂ (λ (z : Layout) (k : ℕ). rooms_of l z k lent left) ey en
-
-      led : Led s x m₁
-      led = leads.led left refl
-
       is : blocks ≡ block_count (flow_code (parts_of s))
-      is = blocks_are s x h m₁ led (scratch (marking x) w') blocks g
-
-      charges : Ok left ≡ charged l b (leader_charges (flow_code (parts_of s)))
-      charges = leads.charges ∙ first-charges s x h l b
+      is = g.1
 
       yes_of : (y : Layout) (left' : FlowBudget) → (layout_of x blocks ≡ y) × (short_of (layout_of x blocks) (length w) lent ≡ false)
           → Indexes s x lent w' y
       yes_of y left' (e, f) =
           subst (Indexes s x lent w') e
           (indexes_of s x h (length w) lent blocks is f w' q
-          (indexed-grown s x (marking x) (layout_of x blocks) w' refl (indexed s x h m₁ (scratch (marking x) w') led blocks g)))
+          (indexed-grown s x (marking x) (layout_of x blocks) w' refl (subst (Indexed s x) (sym c) g.2)))
 
   -- the charge of 0 crossed the limit
   pub measured_over : (z : FlowBudget) → over z ≡ charged l b (0 ∷ []) → Measured s x l lent b w w' (stopped WorkLimit z)

@@ -3,22 +3,21 @@
 
 ghost use Rattle.std.specs.Prelude.{◌≡◌, ◌*◌, ◌/◌, ◌+◌, ◌≤◌, length};
 ghost use Rattle.sheet.specs.Decode.{parts_of};
-ghost use Rattle.instructions.specs.Sound.{Sound};
 ghost use Rattle.starts.specs.Starts.{cut_at, Joins, Starts};
 
+use instructions::checked::Sheet;
 use instructions::sets;
-use sheet::script::Script;
 
 // The row becomes the set. Words that `added` lacks count as zero, words and bits past the slots are not looked at.
-pub fn insert_all(sheet: &[u8], script: Script, added: &[u64], row: &mut [u64])
-    requires { (Sound sheet.now script) × (script.slots ≤ 64 * length row.old) }
-    ensures { Starts (parts_of sheet.now) added.now (length row.old) row.new }
+pub fn insert_all(sheet: &Sheet<'_>, added: &[u64], row: &mut [u64])
+    requires { sheet.now.script.slots ≤ 64 * length row.old }
+    ensures { Starts (parts_of sheet.now.bytes.now) added.now (length row.old) row.new }
 {
-    sets::insert_parameters(sheet, script, row);
-    join_added(added, script.slots, row);
+    sets::insert_parameters(sheet, row);
+    join_added(added, sheet.script.slots, row);
 }
 
-// The row takes in the added slots below the slot count, and loses any other that is not.
+// The row takes in the added slots below the slot count, and loses any other that is not: `join` takes whole words, and the last one is cut after it.
 fn join_added(added: &[u64], slots: usize, row: &mut [u64])
     requires { (slots ≤ 65536) × (slots ≤ 64 * length row.old) }
     ensures { Joins slots added.now row.old row.new }

@@ -2,16 +2,21 @@ use Rattle.std.proofs.Common.{◌∙◌, sym, ap, List, ℕ, length, replicate, 
 use Rattle.sheet.specs.Decode.{SlotKind}
 use Rattle.instructions.specs.Slots.{SlotsStand}
 use Rattle.instructions.specs.Sets.{inserted_hosts, host_row}
+use Rattle.instructions.proofs.Sound.{passed_sound}
 use Rattle.instructions.proofs.HostWords.{hosting_none, hosting_stand, hosting_more, hosting_all, hosts-first}
 use Rattle.instructions.proofs.sets.insert_hosts.Goals as goal
+
+pub overflow_mul-sheet : goal.overflow_mul-sheet
+overflow_mul-sheet c = let p = passed_sound c.args.sheet.now in omega (arith, p.few_slots, p.few_host_words)
 
 pub loop-word-init : goal.loop-word-init
 loop-word-init c = hosting_none c.args.row.now
 
 pub host_word-hosts-requires : goal.host_word-hosts-requires
 host_word-hosts-requires c =
-    let p = c.requires.0 in
-    let first : SlotsStand c.args.s.now c.args.script.slots_at c.min-left.result =
+    let x = c.args.sheet.now in
+    let p = passed_sound x in
+    let first : SlotsStand x.bytes.now x.script.slots_at c.min-left.result =
     record { each = λ k h. p.slots_stand.each k (omega (arith, c.min-left.ensures)) } in
     (hosting_stand c.loop-word.invariant c.min-n.result first (omega (arith, c.min-n.ensures)), omega (arith, c.min-n.ensures))
 
@@ -23,10 +28,10 @@ pub returns : goal.returns
 unfolding host_row
 returns c =
     let a = c.args in
-    let p = c.requires.0 in
-    let s = c.args.s.now in
+    let x = a.sheet.now in
+    let p = passed_sound x in
     let w : ℕ = length a.row.now in
-    let all = hosting_all c.loop-word.invariant (omega (arith, c.loop-word.auto.row)) (omega (arith, c.min-left.ensures, c.requires.1)) c.loop-word.auto.row in
-    let few = hosts-first s a.script.slots_at c.min-left.result a.script.slots (replicate w 0) (omega (arith, c.min-left.ensures))
+    let all = hosting_all c.loop-word.invariant (omega (arith, c.loop-word.auto.row)) (omega (arith, c.min-left.ensures, c.requires)) c.loop-word.auto.row in
+    let few = hosts-first x.bytes.now x.script.slots_at c.min-left.result x.script.slots (replicate w 0) (omega (arith, c.min-left.ensures))
     (λ k h m. p.hosts_before k (omega (arith, c.min-left.ensures)) m) in
     sym all ∙ few ∙ ap (λ (ks : List SlotKind). inserted_hosts ks 0 (replicate w 0)) (sym p.kinds_are)

@@ -1,19 +1,14 @@
 -- `leaders::leaders::leaders` meets its contract. Assumes nothing.
-use Rattle.std.proofs.Common.{sym, subst, ◌∙◌, ℕ, arith}
-use Rattle.leaders.specs.Leaders.{marking}
-use Rattle.memory.specs.Names.{block_of_cell}
-use Rattle.memory.specs.Scratch.{Room}
+use Rattle.std.proofs.Common.{ap, arith}
+use Rattle.sizes.specs.declared.Layout.{Layout}
+use Rattle.instructions.proofs.Sound.{passed_sound}
 use Rattle.leaders.proofs.LeaderLaws.{begun}
-use Rattle.memory.proofs.ScratchLaws.{scratch_sized, place_instructions}
 use Rattle.leaders.proofs.leaders.leaders.Goals as goal
 
 pub put-requires : goal.put-requires
-put-requires c =
-    (subst (λ (n : ℕ). Room (marking c.args.script) n) (sym c.clear.auto.s) c.requires.1, place_instructions (marking c.args.script) block_of_cell 0 (omega arith) c.requires.0.some_code)
+put-requires g c =
+    omega (arith, (passed_sound c.args.sheet.now).some_code, ap (λ (y : Layout). y.instructions) c.requires)
 
 pub mark_all-requires : goal.mark_all-requires
-mark_all-requires c = (
-  c.requires.0,
-  subst (λ (n : ℕ). Room (marking c.args.script) n) (sym (c.put.auto.s ∙ c.clear.auto.s)) c.requires.1,
-  begun c.args.script (scratch_sized c.args.s.now c.requires.1) c.clear.ensures c.put.ensures c.requires.0.some_code,
-)
+mark_all-requires g c =
+    (c.requires, begun _ c.clear.ensures.whole c.clear.ensures.stored c.put.ensures.stored c.args.sheet.now.script c.requires (passed_sound c.args.sheet.now).some_code)

@@ -1,0 +1,25 @@
+// A sheet that passed the checks, with what is known of it.
+ghost use Rattle.std.specs.Prelude.{◌≡◌, Ok};
+ghost use Rattle.sheet.specs.Scripts.{checked_of};
+
+use sheet::script::{Refused, Script};
+
+#[derive(Clone, Copy, PartialEq, Eq, Debug)]
+pub struct Sheet<'a> {
+    pub bytes: &'a [u8],
+    pub script: Script,
+    // so `Sound` of it is known: `passed_sound`
+    pub ghost passed: { checked_of bytes.now ≡ Ok script },
+}
+
+impl<'a> Sheet<'a> {
+    ghost use Rattle.instructions.specs.Sheets.{SheetChecks};
+
+    // The sheet checks, 1 to 9 and 17.
+    pub fn check(bytes: &'a [u8]) -> Result<Self, Refused>
+        ensures { SheetChecks bytes.now result }
+    {
+        let script = sheet::check(bytes)?;
+        Ok(Sheet { bytes, script })
+    }
+}
