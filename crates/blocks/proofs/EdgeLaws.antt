@@ -5,13 +5,13 @@ use mathlib.Core.List.{List, [], ◌∷◌}
 use Prim.Native.Nat.{ℕ, zero, suc, ◌+◌, ◌≤◌, ◌<◌}
 use native.Mathlib.Omega.{arith}
 use lib.ListN.{length, get_or}
-use Rattle.memory.specs.Cells.{Mem, word, store}
+use Rattle.memory.specs.Cells.{Mem, word, store, Sized}
 use Rattle.memory.specs.Names.{block_of_cell, successor_cell, successor_count_cell}
 use Rattle.memory.specs.Edges.{edge_place, edge_word, store_edge}
 use Rattle.memory.specs.Frame.{Only, NoRow}
 use Rattle.memory.specs.Scratch.{scratch_widths}
 use Rattle.sizes.specs.declared.Layout.{Layout}
-use Rattle.memory.proofs.CellLaws.{Sized, same_word, sized-store, word-store_other}
+use Rattle.memory.proofs.CellLaws.{same_word, sized-store, word-store_other}
 use Rattle.memory.proofs.FrameLaws.{only_none, only_then, only-more, only-cell}
 use Rattle.memory.proofs.ScratchLaws.{word_put, place_blocks, place_successors}
 use Rattle.blocks.specs.Words.{counted_edges, link_edges, put_edges}

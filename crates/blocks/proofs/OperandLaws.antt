@@ -1,9 +1,9 @@
 -- The operands of an instruction: at most two targets, few inputs, and the output that is read. Assumes nothing.
-use mathlib.Core.Path.{◌≡◌, refl, ap, subst}
+use mathlib.Core.Path.{◌≡◌, refl, ap}
 use mathlib.Core.Bool.{Bool, true, false, ◌&&◌}
 use mathlib.Core.List.{List, [], ◌∷◌}
 use mathlib.Core.Option.{Option, none, some}
-use Prim.Native.Nat.{ℕ, zero, suc, ◌+◌, ◌*◌, ◌-◌, ◌≤◌, ◌<◌}
+use Prim.Native.Nat.{ℕ, zero, suc, ◌+◌, ◌*◌, ◌-◌, ◌≤◌}
 use native.Mathlib.Omega.{arith}
 use borrow.Author.Tests.{leb-true}
 use lib.Dec.{T, eqb, leb}
@@ -14,7 +14,6 @@ use Rattle.operands.specs.Places.{Place, one, optional, rest, absent, gathered}
 use Rattle.operands.specs.Variants.{Variant, Unreachable, variants, slot_inputs, jump_targets}
 use Rattle.operands.specs.Operands.{by_source, inputs_of, targets_of}
 use Rattle.operands.specs.Instructions.{value_of}
-use Rattle.bitset.specs.Below.{AllBelow}
 use Rattle.script.specs.Script.{list_of}
 
 -- ---- a test at each variant
@@ -72,9 +71,9 @@ unfolding by_source few_targets variants jump_targets two one_place all_of
 all-few k = each few_targets variants Unreachable (k - 1) tt tt
 
 -- an instruction names at most two targets
-pub targets-few : (k : ℕ) (v : List ℕ) → length (targets_of k v) ≤ 2
+pub targets_few : (k : ℕ) (v : List ℕ) → length (targets_of k v) ≤ 2
 unfolding targets_of
-targets-few k v = two-gathered (by_source k).targets v (all-few k)
+targets_few k v = two-gathered (by_source k).targets v (all-few k)
 
 -- ---- few inputs
 
@@ -106,9 +105,9 @@ unfolding by_source few_inputs variants slot_inputs rests all_of
 all-sparse k = each few_inputs variants Unreachable (k - 1) tt tt
 
 -- as many inputs as fields and four more, at most
-pub inputs-few : (k : ℕ) (v : List ℕ) → length (inputs_of k v) ≤ length v + 4
+pub inputs_few : (k : ℕ) (v : List ℕ) → length (inputs_of k v) ≤ length v + 4
 unfolding inputs_of
-inputs-few k v = go (leb (rests ps) 1) (leb (length ps) 4) refl refl (all-sparse k)
+inputs_few k v = go (leb (rests ps) 1) (leb (length ps) 4) refl refl (all-sparse k)
   where
     ps : List Place
     ps = (by_source k).inputs
@@ -133,7 +132,3 @@ output_there x none e = let z : ◌≡◌ {A = ℕ} 0 1 = cc in absurd (omega ar
 pub output_missing : (v : Option ℕ) → None ≡ value_of v → list_of v ≡ []
 output_missing (some y) e = let z : ◌≡◌ {A = ℕ} 0 1 = cc in absurd (omega arith)
 output_missing none e = refl
-
--- the only number of a list of numbers below n
-pub below-first : (n x : ℕ) (l : List ℕ) → l ≡ x ∷ [] → AllBelow n l → x < n
-below-first n x l e b = let c = subst (AllBelow n) e b in c.0

@@ -26,7 +26,7 @@ use Rattle.bitset.proofs.Below.{below_up}
 use Rattle.script.specs.Script.{list_of, flow_instruction, flow_code}
 use Rattle.script.proofs.ScriptLaws.{code_at, everywhere}
 use Rattle.leaders.proofs.LeaderLaws.{fitting_at, read_is}
-use Rattle.blocks.proofs.OperandLaws.{targets-few, inputs-few}
+use Rattle.blocks.proofs.OperandLaws.{targets_few, inputs_few}
 
 -- what is read is the i-th instruction of the code, whose slots fit w words
 pub record Read (s : List ℕ) (w i : ℕ) (v : Instruction) : Type 0 where
@@ -77,7 +77,7 @@ module _ {s : List ℕ} {x : Script} (ok : Sound s x) {i at : ℕ} (q : at ≡ c
     -- it is the i-th instruction of the code, and its slots fit the words
     pub read_at : {w : ℕ} → x.slots ≤ 64 * w → (v : Instruction) → v.kind ≡ p.kind → v.fields.now ≡ p.fields.now → Read s w i v
     read_at {w} h v f g = record {
-      few = omega (arith, inputs-few (kind_number v.kind) (values_of v), few_fields ok i l, ap (λ (c : sheet.Instruction). length c.fields) there);
+      few = omega (arith, inputs_few (kind_number v.kind) (values_of v), few_fields ok i l, ap (λ (c : sheet.Instruction). length c.fields) there);
       inputs_are = ap (λ (v : flow.Instruction). v.inputs) is;
       outputs_are = ap (λ (v : flow.Instruction). v.outputs) is;
       emptied_none = ap (λ (v : flow.Instruction). v.emptied) is;
@@ -99,7 +99,7 @@ module _ {s : List ℕ} {x : Script} (ok : Sound s x) {i at : ℕ} (q : at ≡ c
 module _ (s : List ℕ) (x : Script) (ok : Sound s x) where
   -- at most two targets
   pub targets_everywhere : (i : ℕ) → length (flow.instruction_at (flow_code (parts_of s)) i).targets ≤ 2
-  targets_everywhere = everywhere s x ok (λ v. length v.targets ≤ 2) (λ i l. targets-few (code_kind s x i) (code_values s x i)) (omega arith)
+  targets_everywhere = everywhere s x ok (λ v. length v.targets ≤ 2) (λ i l. targets_few (code_kind s x i) (code_values s x i)) (omega arith)
 
   -- its slots fit the words
   module _ (w : ℕ) (h : x.slots ≤ 64 * w) where

@@ -10,12 +10,12 @@ use Rattle.dataflow.specs.Lists.{range}
 use Rattle.dataflow.proofs.Lists.{range-append, range_snoc}
 use Rattle.dataflow.specs.Code.{Instruction, instruction_at}
 use Rattle.dataflow.specs.Charges.{cost_at}
-use Rattle.memory.specs.Cells.{Mem, cell, word, store, store_cell}
-use Rattle.memory.specs.Names.{offset_cell, cost_cell, first_row, uses_row, defines_row}
+use Rattle.memory.specs.Cells.{Mem, cell, word, store, store_cell, Sized}
+use Rattle.memory.specs.Names.{offset_cell, block_of_cell, leader_cell, cost_cell, first_row, uses_row, defines_row}
 use Rattle.memory.specs.Frame.{Only, NoRow, ThisRow, RowsOf}
 use Rattle.memory.specs.Scratch.{scratch_widths, scratch_cells}
 use Rattle.sizes.specs.declared.Layout.{Layout}
-use Rattle.memory.proofs.CellLaws.{Sized, same_word, sized-store, cell-store_same, word-store_other}
+use Rattle.memory.proofs.CellLaws.{same_word, sized-store, cell-store_same, word-store_other}
 use Rattle.memory.proofs.FrameLaws.{only_none, only_then, only-more, only-cell, only_row}
 use Rattle.memory.proofs.ScratchLaws.{word_put, scratch_count, place_instructions}
 use Rattle.budget.specs.declared.FlowBudget.{FlowBudget}
@@ -34,6 +34,7 @@ use Rattle.instructions.specs.Sound.{code_offset}
 use Rattle.blocks.specs.Rows.{used_in, Transfer, transfer_one, transfer_all, rows_at, Transferred}
 use Rattle.blocks.specs.Blocks.{Ready}
 use Rattle.blocks.proofs.ReadLaws.{Read, stands_at, fits_at, read_at}
+use Rattle.blocks.proofs.KeptLaws.{ready_kept}
 
 -- ---- lists
 
@@ -189,14 +190,14 @@ module _ {code : List Instruction} {l : Limits} {budget : FlowBudget} {b start :
 
 -- ---- what is read at pc
 
-module _ {s : List ℕ} {x : Script} {y : Layout} {m : Mem} (ok : Ready s x y m) (m' : Mem) (same : cell m' offset_cell ≡ cell m offset_cell)
-    (i : ℕ) (h : i < y.instructions) {at : ℕ} (e : at ≡ word m' offset_cell i) where
+module _ {s : List ℕ} {x : Script} {y : Layout} {m : Mem} (ok : Ready s x y m) {i : ℕ} (h : i < y.instructions) {at : ℕ}
+    (e : at ≡ word m offset_cell i) where
   there : i < x.count
   there = omega (arith, ok.fits.instructions)
 
   -- the offset that is noted is the instruction's
   pub offset_is : at ≡ code_offset s x i
-  offset_is = e ∙ same_word i same ∙ ok.index.offsets i there
+  offset_is = e ∙ ok.index.offsets i there
 
   pub noted_stands : Stands s at
   noted_stands = stands_at ok.sound offset_is there
@@ -208,7 +209,7 @@ module _ {s : List ℕ} {x : Script} {y : Layout} {m : Mem} (ok : Ready s x y m)
     pub noted_read : (v : operands.Instruction) → v.kind ≡ p.kind → v.fields.now ≡ p.fields.now → Read s y.words i v
     noted_read = read_at ok.sound offset_is there f ok.fits.slots
 
--- the offsets stay while the instructions of a block are gone through
-pub offsets-stay : {code : List Instruction} {l : Limits} {budget left : FlowBudget} {b start pc : ℕ} {m m' : Mem}
-    → Transferring code l budget left b start pc m m' → cell m' offset_cell ≡ cell m offset_cell
-offsets-stay g = g.only.named offset_cell refl
+-- the index of the blocks stays while the instructions of a block are gone through
+pub transferring_ready : {s : List ℕ} {x : Script} {y : Layout} {code : List Instruction} {l : Limits} {budget left : FlowBudget} {b start pc : ℕ}
+    {m m' : Mem} → Ready s x y m → Transferring code l budget left b start pc m m' → Ready s x y m'
+transferring_ready ok g = ready_kept ok (g.only.named offset_cell refl) (g.only.named block_of_cell refl) (g.only.named leader_cell refl)

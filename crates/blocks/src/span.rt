@@ -1,29 +1,32 @@
 // Where a block begins and where it ends.
-ghost use Rattle.std.specs.Prelude.{◌≡◌, ◌+◌, ◌≤◌, ◌<◌, length};
-ghost use Rattle.memory.specs.Scratch.{scratch, Room};
+ghost use Rattle.std.specs.Prelude.{◌≡◌, ◌≤◌, ◌<◌};
 ghost use Rattle.blocks.specs.Words.{end_of, spanned};
 
-use memory::layout;
-use sizes::Layout;
+use memory::names::Cell;
+use memory::scratch::Scratch;
+use run::Run;
 
 // A block ends at the next one's start, the last one at the end of the code.
-fn end_of(s: &[u64], y: Layout, block: usize) -> u64
-    requires { Room y (length s.now) × (block < y.blocks) × (y.blocks ≤ y.instructions) }
-    ensures { result ≡ end_of y (scratch y s.now) block }
+#[tactic(auto, unfolding(crate::specs::Words::end_of))]
+fn end_of<R: Run>(s: &Scratch<'_, R>, block: usize) -> u64
+    requires { (block < R.layout.blocks) × (R.layout.blocks ≤ R.layout.instructions) }
+    ensures { result ≡ end_of R.layout s.now block }
 {
+    let y = s.layout();
     if block + 1 < y.blocks {
-        return memory::scratch::get(s, y, layout::LEADER, block + 1);
+        return s.get(Cell::Leader, block + 1);
     }
     y.instructions as u64
 }
 
 // The words START and END of a block.
-pub fn span(s: &mut [u64], y: Layout, block: usize)
-    requires { Room y (length s.old) × (block < y.blocks) × (y.blocks ≤ y.instructions) }
-    ensures { scratch y s.new ≡ spanned y block (scratch y s.old) }
+#[tactic(auto, unfolding(crate::specs::Words::spanned))]
+pub fn span<R: Run>(s: &mut Scratch<'_, R>, block: usize)
+    requires { (block < R.layout.blocks) × (R.layout.blocks ≤ R.layout.instructions) }
+    ensures { s.new ≡ spanned R.layout block s.old }
 {
-    let start = memory::scratch::get(s, y, layout::LEADER, block);
-    let end = end_of(s, y, block);
-    memory::scratch::put(s, y, layout::START, block, start);
-    memory::scratch::put(s, y, layout::END, block, end);
+    let start = s.get(Cell::Leader, block);
+    let end = end_of(s, block);
+    s.put(Cell::Start, block, start);
+    s.put(Cell::End, block, end);
 }

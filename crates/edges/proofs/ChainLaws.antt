@@ -9,17 +9,18 @@ use native.Mathlib.Omega.{arith}
 use native.Mathlib.Decide.{ℕ_discrete}
 use borrow.Author.Tests.{eq-eqb, ne_eqb}
 use lib.Dec.{eqb}
-use lib.ListN.{length, get_or, drop, drop_of_length-le}
+use lib.ListN.{length, get_or, drop}
 use lib.Seq.{drop-cons}
 use Rattle.dataflow.specs.Lists.{pick, tabulate}
 use Rattle.dataflow.specs.Results.{edges_to, predecessors_from}
 use Rattle.memory.specs.Cells.{Mem, word, store}
 use Rattle.memory.specs.Names.{first_edge_cell, next_edge_cell, predecessor_count_cell, successor_count_cell}
-use Rattle.memory.specs.Scratch.{edge_words, scratch_widths}
+use Rattle.memory.specs.Scratch.{edge_words, scratch_widths, Whole}
 use Rattle.memory.specs.Edges.{successor_at, edge_from, source_of, place_of, store_next, chain_from, edges_into}
 use Rattle.memory.specs.Frame.{Only, NoRow}
 use Rattle.sizes.specs.declared.Layout.{Layout}
-use Rattle.memory.proofs.CellLaws.{Sized, sized-store, word-store_other, same_word}
+use Rattle.memory.specs.Cells.{Sized}
+use Rattle.memory.proofs.CellLaws.{sized-store, word-store_other, same_word}
 use Rattle.memory.proofs.ScratchLaws.{word_put, place_blocks, place_links}
 use Rattle.memory.proofs.EdgeLaws.{source_from, place-from}
 use Rattle.memory.proofs.FrameLaws.{only_then}
@@ -36,6 +37,11 @@ only-linked m edge to =
     only_then (only_store chain_cells next_edge_cell (place_of edge) (word m first_edge_cell to) (omega arith) refl refl)
     (only_then (only_store chain_cells first_edge_cell to edge (omega arith) refl refl)
     (only_store chain_cells predecessor_count_cell to (word m predecessor_count_cell to + 1) (omega arith) refl refl))
+
+-- and all cells stay as wide as they were
+pub whole-linked : (y : Layout) (m : Mem) (edge to : ℕ) → Whole y m → Whole y (linked_in m edge to)
+unfolding linked_in
+whole-linked y m edge to z = sized-store _ _ _ _ _ (sized-store _ _ _ _ _ (sized-store _ _ _ _ _ z))
 
 -- ---- the three stores
 module _ (m m₁ m₂ : Mem) (edge first to : ℕ) where
@@ -177,19 +183,6 @@ module _ (next : ℕ → List ℕ) {y : Layout} {block : ℕ} (lt : block < y.bl
   pub partly_room : Holds next y m → {low k : ℕ} → k ≡ word m successor_count_cell block → ChainedSince next y (suc block) low m
       → edges_before next block + k ≤ low
   partly_room h e c = omega (arith, c.room, h.counted block lt)
-
-  -- the edges of the block behind, and none of its own
-  pub partly_none : Holds next y m → (base : ℕ) {low k : ℕ} → k ≡ word m successor_count_cell block → low ≡ base + k → ChainedSince next y (suc block) low m
-      → Partly next y block base k m
-  partly_none h base {low} {k} e q c = subst (λ (n : ℕ). Chains y n (λ b. edges_to b block (drop k (next block)) (predecessors_since next y (suc block) b)) m) q record {
-    are = λ b l. c.chains.are b l ∙ sym (ap (λ (es : List ℕ). edges_to b block es (predecessors_since next y (suc block) b)) none);
-    edges = c.chains.edges;
-    above = c.chains.above;
-    few = c.chains.few;
-  }
-    where
-      none : drop k (next block) ≡ []
-      none = drop_of_length-le (next block) {i = k} (omega (arith, h.counted block lt))
 
   -- one edge more
   pub partly_more : Sized (scratch_widths y) m → Holds next y m → edge_words y ≤ 4294967296 → (base k : ℕ) → 0 < k

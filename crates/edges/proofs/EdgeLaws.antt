@@ -5,18 +5,18 @@ use mathlib.Core.List.{List, [], ◌∷◌}
 use Prim.Native.Nat.{ℕ, zero, suc, ◌*◌, ◌≤◌, ◌<◌}
 use native.Mathlib.Omega.{arith}
 use native.Mathlib.Decide.{ℕ_discrete}
-use lib.ListN.{length, get_or, set, replicate, get_or-replicate}
+use lib.ListN.{length, set, replicate, get_or-replicate}
 use Rattle.dataflow.specs.Lists.{elem, every, flag}
 use Rattle.memory.specs.Cells.{Mem, cell, word, store, store_cell}
 use Rattle.memory.specs.Frame.{spared, Only, NoRow}
 use Rattle.memory.specs.Names.{first_row, successor_cell, successor_count_cell}
-use Rattle.memory.specs.Scratch.{scratch_widths, BlockCell}
+use Rattle.memory.specs.Scratch.{Whole}
 use Rattle.sizes.specs.declared.Layout.{Layout}
 use Rattle.memory.specs.Edges.{successor_at}
 use Rattle.memory.proofs.EdgeLaws.{successor_kept}
-use Rattle.memory.proofs.CellLaws.{Sized, same_word, word-cell_same}
+use Rattle.memory.proofs.CellLaws.{same_word, word-cell_same}
 use Rattle.memory.proofs.FrameLaws.{only-cell, only-more}
-use Rattle.memory.proofs.ScratchLaws.{sized_among, width_blocks}
+use Rattle.memory.proofs.ScratchLaws.{sized_among}
 use Rattle.edges.specs.Edges.{edges_before, marked, Holds, Cleared}
 
 -- ---- marks
@@ -89,12 +89,10 @@ successor_there {next} h b k lt kt =
 
 -- ---- a cell that is cleared
 
-pub cleared-cell : (y : Layout) (k : ℕ) (m m' : Mem) → Sized (scratch_widths y) m → BlockCell k
-    → m' ≡ store_cell m k (replicate (get_or (scratch_widths y) k 0) 0) → Cleared y k m m'
-cleared-cell y k m m' z b e = record {
-  zeros = λ i lt. ap (λ (w : Mem). word w k i) e ∙ word-cell_same m k _ i (sized_among y z (omega arith))
-      ∙ get_or-replicate (get_or (scratch_widths y) k 0) i 0 0 (omega (arith, width_blocks y k b.low b.high));
-  only = only-cell k _ (omega arith) e;
+pub cleared-cell : {y : Layout} {m m' : Mem} (k : ℕ) → k < first_row → Whole y m → m' ≡ store_cell m k (replicate y.blocks 0) → Cleared y k m m'
+cleared-cell {y} {m} k h z e = record {
+  zeros = λ i lt. ap (λ (w : Mem). word w k i) e ∙ word-cell_same m k _ i (sized_among y z (omega arith)) ∙ get_or-replicate y.blocks i 0 0 lt;
+  only = only-cell k _ h e;
 }
 
 -- among the cells that may change

@@ -17,12 +17,13 @@ use Rattle.memory.specs.Names.{reachable_cell, stack_block_cell}
 use Rattle.dataflow.specs.Lists.{flag}
 use Rattle.memory.specs.Scratch.{scratch_widths}
 use Rattle.sizes.specs.declared.Layout.{Layout}
-use Rattle.memory.proofs.CellLaws.{Sized, sized-store, word-store_other}
+use Rattle.memory.specs.Cells.{Sized}
+use Rattle.memory.proofs.CellLaws.{sized-store, word-store_other}
 use Rattle.memory.proofs.ScratchLaws.{word_put, place_blocks}
 use Rattle.memory.proofs.FrameLaws.{only_then}
 use Rattle.edges.specs.Reachability.{sweep_cells}
 use Rattle.edges.specs.Stack.{stack_of, Sweeps, Begun}
-use Rattle.edges.proofs.EdgeLaws.{flag-yes, flag-no, only_store}
+use Rattle.edges.proofs.EdgeLaws.{flag-no, only_store}
 
 -- ---- a mark, then a block on the stack
 pub search-stored : {m m₁ m₂ : Mem} (i v j w : ℕ) → m₁ ≡ store m reachable_cell i v → m₂ ≡ store m₁ stack_block_cell j w → Only sweep_cells NoRow m m₂
@@ -37,11 +38,6 @@ stack_same m m' (suc n) f = ap₂ (λ (b : ℕ) (l : List ℕ). b ∷ l) (f n (o
 -- ---- a block that joins unless it is marked
 module _ {y : Layout} {top block v : ℕ} {r : Sweep} {m : Mem} (s : Sweeps y top r m) (lt : block < y.blocks)
     (ev : v ≡ word m reachable_cell block) where
-  pub enter_marked : (next : ℕ → List ℕ) → (v ≡ 0 → ⊥) → Sweeps y top (add next (get_or r.visited block false) block r) m
-  enter_marked next ne =
-      subst (λ (t : Bool). Sweeps y top (add next t block r) m)
-      (sym (flag-yes (get_or r.visited block false) (λ q. ne (ev ∙ s.marks block lt ∙ q)))) s
-
   fresh : v ≡ 0 → get_or r.visited block false ≡ false
   fresh z = flag-no (get_or r.visited block false) (sym (s.marks block lt) ∙ sym ev ∙ z)
 

@@ -19,7 +19,7 @@ use Rattle.budget.specs.declared.Limits.{Limits}
 use Rattle.budget.specs.declared.OverWork.{OverWork}
 use Rattle.std.specs.Prelude.{Ok, Err}
 use Rattle.budget.specs.Budget.{Charged, charged}
-use Rattle.budget.proofs.BudgetLaws.{charged-none, ones_on, ones_over, ones-crossed}
+use Rattle.budget.proofs.BudgetLaws.{charged-none, ones_more, ones_on, ones_over, ones-crossed}
 use Rattle.edges.specs.Edges.{Holds}
 use Rattle.bitset.specs.Below.{AllBelow}
 use Rattle.memory.specs.Frame.{Only, NoRow}
@@ -64,6 +64,11 @@ successor_at_lem {next} {block = block} {k = k} lt h f en less e =
     let few : k < length (next block) = omega (arith, h.counted block lt) in
     let is = e ∙ (holds-only f refl refl h).stored block k lt few in
     (few, is, rw is (h.below block k lt few))
+
+-- one charge more is met
+pub paid_more : (l : Limits) (b : FlowBudget) {left left' : FlowBudget} (k : ℕ) → charged l b (replicate k 1) ≡ Ok left
+    → Ok left' ≡ charged l left (1 ∷ []) → charged l b (replicate (k + 1) 1) ≡ Ok left'
+paid_more l b k p q = ones_more l b k p ∙ sym q
 
 -- ---- the answer of the successors
 module _ {y : Layout} {l : Limits} {b left : FlowBudget} {block top k n : ℕ} {m m' : Mem} (lt : block < y.blocks)
@@ -148,9 +153,6 @@ module _ {next : ℕ → List ℕ} {y : Layout} {l : Limits} {b : FlowBudget} {n
 
     pub swept_top : word m stack_block_cell (top - 1) < y.blocks
     swept_top = below.0
-
-    pub swept_high : top - 1 < y.blocks
-    swept_high = omega (arith, s.sweeps.room)
 
     module _ {block : ℕ} (e : block ≡ word m stack_block_cell (top - 1)) where
       abbrev popped : Sweep

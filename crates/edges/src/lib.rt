@@ -3,4 +3,3 @@
 
 pub mod predecessors;
 pub mod reachability;
-mod words;

@@ -27,7 +27,7 @@ use Rattle.memory.specs.Cells.{Mem, cell, word}
 use Rattle.memory.specs.Names.{reachable_cell, uses_row, defines_row, parameters_row}
 use Rattle.memory.specs.Scratch.{scratch_widths, Row}
 use Rattle.sizes.specs.declared.Layout.{Layout}
-use Rattle.memory.proofs.CellLaws.{Sized}
+use Rattle.memory.specs.Cells.{Sized}
 use Rattle.edges.specs.Edges.{marked}
 use Rattle.bitset.specs.Below.{AllBelow}
 use Rattle.bitset.proofs.Below.{below-mem}

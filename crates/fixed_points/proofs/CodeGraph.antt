@@ -15,7 +15,7 @@ use Rattle.memory.specs.Cells.{Mem, cell, word}
 use Rattle.memory.specs.Names.{start_cell, reachable_cell, successor_count_cell, predecessor_count_cell, successor_cell}
 use Rattle.memory.specs.Scratch.{scratch_widths}
 use Rattle.sizes.specs.declared.Layout.{Layout}
-use Rattle.memory.proofs.CellLaws.{Sized}
+use Rattle.memory.specs.Cells.{Sized}
 use Rattle.memory.proofs.ScratchLaws.{sized_blocks}
 use Rattle.edges.specs.Edges.{marked}
 use Rattle.edges.specs.Predecessors.{predecessors_of}

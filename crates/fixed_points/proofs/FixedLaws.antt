@@ -2,9 +2,9 @@
 use mathlib.Core.Path.{◌≡◌, refl, sym, ap, ◌∙◌}
 use mathlib.Core.Bool.{Bool}
 use mathlib.Core.List.{List, reverse}
-use Prim.Native.Nat.{ℕ, ◌^◌, ◌<◌}
+use Prim.Native.Nat.{ℕ}
 use native.Mathlib.Omega.{arith}
-use lib.ListN.{length, get_or, take}
+use lib.ListN.{length, take}
 use Rattle.bitset.specs.Sets.{member}
 use Rattle.dataflow.specs.Analyses.{initialization, liveness}
 use Rattle.dataflow.specs.Code.{Instruction, block_successors}
@@ -15,13 +15,11 @@ use Rattle.budget.specs.declared.OverWork.{OverWork}
 use Rattle.std.specs.Prelude.{Result, Ok, Err}
 use Rattle.budget.specs.Budget.{Charged, charged}
 use Rattle.budget.proofs.BudgetLaws.{met_then, over_then, over-not_ok}
-use Rattle.memory.specs.Cells.{Mem, cell}
+use Rattle.memory.specs.Cells.{Mem, cell, Sized, InWords}
 use Rattle.memory.specs.Names.{order_cell, parameters_row, initialized_row, live_row}
-use Rattle.memory.specs.Scratch.{scratch_widths, scratch, Room}
+use Rattle.memory.specs.Scratch.{scratch_widths, Whole}
 use Rattle.sizes.specs.declared.Layout.{Layout}
-use Rattle.memory.proofs.CellLaws.{Sized}
-use Rattle.memory.proofs.ScratchLaws.{scratch_sized, row_words}
-use Rattle.edges.specs.Edges.{Held}
+use Rattle.memory.proofs.WordLaws.{row_in_words}
 use Rattle.edges.proofs.FlowLaws.{Still, still-only, flows-still}
 use Rattle.order.specs.Postorder.{searched_from, search_charges, Searched}
 use Rattle.transfer.specs.declared.direction.Direction.{Direction}
@@ -31,7 +29,6 @@ use Rattle.transfer.proofs.TransferLaws.{running-at}
 use Rattle.edges.specs.Flow.{Flows}
 use Rattle.fixed_points.specs.FixedPoints.{Fixed}
 use Rattle.fixed_points.specs.Stages.{Flowing, InOrder, Ready, RoundsDone}
-use Rattle.fixed_points.proofs.CodeGraph.{some_block}
 use Rattle.fixed_points.proofs.Bits.{RowsOfWords}
 use Rattle.fixed_points.proofs.RoundLaws.{FreshIn, fresh_in, round_charges_lem, round_sets}
 use Rattle.fixed_points.proofs.Seeds.{seedable}
@@ -130,15 +127,15 @@ module _ {y : Layout} {l : Limits} {b : FlowBudget} {n : ℕ} {m m₁ t t₁ : M
 -- ---- all stages
 module _ {y : Layout} {l : Limits} {b : FlowBudget} {m m₁ t t' : Mem} where
   -- the search crossed the limit
-  pub fixed_unordered : {x : OverWork} → Searched y l b m m₁ (Err x) → Fixed y l b m m₁ t t' (Err x)
-  fixed_unordered p = record {
+  pub fixed_unordered : {x : OverWork} {r : Charged} → Searched y l b m m₁ (Err x) → r ≡ Err x → Fixed y l b m m₁ t t' r
+  fixed_unordered p e = rw e (record {
     charges = λ code parameter s f fresh.
         sym (over_then l b (postorder_charges code) (rounds_charges code parameter y.words) (searched_over f p));
     sets = λ code parameter s f fresh left u. absurd (over-not_ok u);
     others = λ left u. absurd (over-not_ok u);
     edges = λ left u. absurd (over-not_ok u);
     rows = λ left u. absurd (over-not_ok u);
-  }
+  })
 
   -- it was met, and the answer of both rounds is that of all
   pub fixed_on : {n : ℕ} {left : FlowBudget} {m' : Mem} {r : Charged} → Searched y l b m m₁ (Ok (n, left)) → RoundsDone y l left n m₁ m' t t' r
@@ -162,14 +159,6 @@ module _ {y : Layout} {l : Limits} {b : FlowBudget} {m m₁ t t' : Mem} where
 
 -- ---- what the calls require
 
--- the search: a graph and a block
-pub flowing-held : {y : Layout} {m : Mem} → Flowing y m → Held y m
-flowing-held h = (block_successors h.0, h.3.holds)
-
--- and a block
-pub flowing-some : {y : Layout} {m : Mem} → Flowing y m → 0 < y.blocks
-flowing-some h = some_block h.2 h.3
-
 -- both rounds: the graph and its order
 pub ready_searched : {y : Layout} {l : Limits} {b : FlowBudget} {m m' : Mem} {n : ℕ} {left : FlowBudget} → Flowing y m
     → Searched y l b m m' (Ok (n, left)) → Ready y n m'
@@ -184,32 +173,23 @@ pub ready_round : {d : Direction} {y : Layout} {l : Limits} {b : FlowBudget} {n 
     → Propagated d y l b n m m' t t' r → r ≡ Ok left → Ready y n m → Ready y n m'
 ready_round p e h = (h.0, h.1, h.2, flows-still (still-round p e) h.3, order-round p e h.4)
 
--- ---- as the code calls them: scratch as lent words
+-- ---- as the code calls them: the sizes and the words of scratch, as `layout` gives them
 
--- the rows of lent scratch are of words
-rows-of_words : {y : Layout} (s : List ℕ) → Room y (length s) → ((i : ℕ) → get_or s i 0 < 2 ^ 64) → RowsOfWords y (scratch y s)
-rows-of_words s room fits k r = row_words s room r fits
+-- each row is of words
+rows_of_words : {y : Layout} {m : Mem} → Whole y m → InWords m → RowsOfWords y m
+rows_of_words z f k r = row_in_words z f r
 
-module _ {y : Layout} (s : List ℕ) (room : Room y (length s)) where
-  -- what `propagate` requires
-  pub seedable_as : {n : ℕ} → Ready y n (scratch y s) → Seedable y (scratch y s) n
-  seedable_as h = ready_seedable (scratch_sized s room) h
+-- a round seeds the next
+pub ready_again : {d : Direction} {y : Layout} {l : Limits} {b : FlowBudget} {n : ℕ} {m m₁ t t₁ : Mem} {left : FlowBudget}
+    → Propagated d y l b n m m₁ t t₁ (Ok left) → Ready y n m → Whole y m₁ → Seedable y m₁ n
+ready_again p h z = ready_seedable z (ready_round p refl h)
 
-  -- and requires again
-  pub seedable_again : {d : Direction} {l : Limits} {b : FlowBudget} {n : ℕ} {m t t' : Mem} {left : FlowBudget}
-      → Propagated d y l b n m (scratch y s) t t' (Ok left) → Ready y n m → Seedable y (scratch y s) n
-  seedable_again p h = ready_seedable (scratch_sized s room) (ready_round p refl h)
+module _ {y : Layout} {l : Limits} {b : FlowBudget} {n : ℕ} {m m₁ t t₁ : Mem} (z : Whole y m) (f : InWords m) where
+  -- the first round crossed the limit
+  pub rounds_over_as : {x : OverWork} {r : Charged} → Propagated Initialization y l b n m m₁ t t₁ (Err x) → r ≡ Err x → RoundsDone y l b n m m₁ t t₁ r
+  rounds_over_as p e = rw e (rounds_over z (rows_of_words z f) p refl)
 
-  module _ (fits : (i : ℕ) → get_or s i 0 < 2 ^ 64) where
-    -- the first round crossed the limit
-    pub rounds_over_as : {l : Limits} {b : FlowBudget} {n : ℕ} {m₁ t t₁ : Mem} {x : OverWork}
-        → Propagated Initialization y l b n (scratch y s) m₁ t t₁ (Err x) → RoundsDone y l b n (scratch y s) m₁ t t₁ (Err x)
-    rounds_over_as p = rounds_over (scratch_sized s room) (rows-of_words s room fits) p refl
-
-    -- it was met, and the second followed
-    pub rounds_on_as : (s₁ : List ℕ) → Room y (length s₁) → ((i : ℕ) → get_or s₁ i 0 < 2 ^ 64)
-        → {l : Limits} {b : FlowBudget} {n : ℕ} {m' t t₁ t' : Mem} {r : Charged} {left : FlowBudget}
-        → Propagated Initialization y l b n (scratch y s) (scratch y s₁) t t₁ (Ok left)
-        → Propagated Liveness y l left n (scratch y s₁) m' t₁ t' r → RoundsDone y l b n (scratch y s) m' t t' r
-    rounds_on_as s₁ room₁ fits₁ p q =
-        rounds_on (scratch_sized s room) (rows-of_words s room fits) p refl (scratch_sized s₁ room₁) (rows-of_words s₁ room₁ fits₁) q
+  -- it was met, and the second followed
+  pub rounds_on_as : {m' t' : Mem} {r : Charged} {left : FlowBudget} → Whole y m₁ → InWords m₁ → Propagated Initialization y l b n m m₁ t t₁ (Ok left)
+      → Propagated Liveness y l left n m₁ m' t₁ t' r → RoundsDone y l b n m m' t t' r
+  rounds_on_as z₁ f₁ p q = rounds_on z (rows_of_words z f) p refl z₁ (rows_of_words z₁ f₁) q

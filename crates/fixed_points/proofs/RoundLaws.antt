@@ -32,7 +32,7 @@ use Rattle.memory.specs.Cells.{Mem, cell}
 use Rattle.memory.specs.Names.{order_cell, reachable_cell}
 use Rattle.memory.specs.Scratch.{scratch_widths}
 use Rattle.sizes.specs.declared.Layout.{Layout}
-use Rattle.memory.proofs.CellLaws.{Sized}
+use Rattle.memory.specs.Cells.{Sized}
 use Rattle.memory.proofs.ScratchLaws.{sized_blocks}
 use Rattle.transfer.specs.declared.direction.Direction.{Direction}
 use Rattle.transfer.specs.declared.direction.Direction.TheVariants.{Initialization, Liveness}

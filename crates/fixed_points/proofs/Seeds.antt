@@ -17,7 +17,7 @@ use Rattle.memory.specs.Cells.{Mem, cell, word}
 use Rattle.memory.specs.Names.{order_cell, reachable_cell}
 use Rattle.memory.specs.Scratch.{scratch_widths}
 use Rattle.sizes.specs.declared.Layout.{Layout}
-use Rattle.memory.proofs.CellLaws.{Sized}
+use Rattle.memory.specs.Cells.{Sized}
 use Rattle.memory.proofs.ScratchLaws.{sized_blocks}
 use Rattle.propagate.specs.Rounds.{Seedable}
 use Rattle.edges.specs.Flow.{Flows}

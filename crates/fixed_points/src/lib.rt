@@ -2,41 +2,42 @@
 #![tactic(auto)]
 
 ghost use Rattle.std.specs.Prelude.{◌≡◌, ◌-◌, ◌^◌, ◌<◌, length};
-ghost use Rattle.memory.specs.Scratch.{scratch, Room};
-ghost use Rattle.memory.specs.Sets.{sets, SetsRoom};
 ghost use Rattle.fixed_points.specs.FixedPoints.{Fixed};
 ghost use Rattle.fixed_points.specs.Stages.{Flowing, Ready, RoundsDone};
 
-use budget::{FlowBudget, Limits, OverWork};
-use sizes::Layout;
+use budget::OverWork;
+use memory::scratch::Scratch;
+use memory::sets::Sets;
+use run::Run;
+use run::meter::Meter;
 use transfer::direction::Direction;
 
-pub fn fixed_points(
-    s: &mut [u64],
-    t: &mut [u64],
-    y: Layout,
-    limits: Limits,
-    budget: FlowBudget,
-) -> Result<FlowBudget, OverWork>
-    requires { Room y (length s.old) × SetsRoom y (length t.old) × Flowing y (scratch y s.old) × (limits.work < 2 ^ 64 - 1) }
-    ensures { Fixed y limits budget (scratch y s.old) (scratch y s.new) (sets y t.old) (sets y t.new) result }
+#[tactic(auto, using(crate::proofs::FixedLaws::fixed_on))]
+pub fn fixed_points<R: Run>(
+    s: &mut Scratch<'_, R>,
+    t: &mut Sets<'_, R>,
+    meter: Meter<R>,
+) -> Result<Meter<R>, OverWork>
+    requires { Flowing R.layout s.old × (R.limits.work < 2 ^ 64 - 1) }
+    ensures { Fixed R.layout R.limits meter s.old s.new t.old t.new result }
 {
-    let (n, left) = order::postorder(s, y, limits, budget)?;
-    rounds(s, t, y, n, limits, left)
+    let (n, left) = order::postorder(s, meter)?;
+    rounds(s, t, n, left)
 }
 
-// A round forwards, then a round backwards.
-fn rounds(
-    s: &mut [u64],
-    t: &mut [u64],
-    y: Layout,
+// A round forwards, then a round backwards. Before each, scratch is as wide as the layout says, and holds words.
+#[tactic(auto, using(crate::proofs::FixedLaws::rounds_on_as))]
+fn rounds<R: Run>(
+    s: &mut Scratch<'_, R>,
+    t: &mut Sets<'_, R>,
     n: usize,
-    limits: Limits,
-    budget: FlowBudget,
-) -> Result<FlowBudget, OverWork>
-    requires { Room y (length s.old) × SetsRoom y (length t.old) × Ready y n (scratch y s.old) × (limits.work < 2 ^ 64 - 1) }
-    ensures { RoundsDone y limits budget n (scratch y s.old) (scratch y s.new) (sets y t.old) (sets y t.new) result }
+    meter: Meter<R>,
+) -> Result<Meter<R>, OverWork>
+    requires { Ready R.layout n s.old × (R.limits.work < 2 ^ 64 - 1) }
+    ensures { RoundsDone R.layout R.limits meter n s.old s.new t.old t.new result }
 {
-    let left = propagate::propagate(s, t, y, Direction::Initialization, n, limits, budget)?;
-    propagate::propagate(s, t, y, Direction::Liveness, n, limits, left)
+    let _ = s.layout();
+    let left = propagate::propagate(s, t, Direction::Initialization, n, meter)?;
+    let _ = s.layout();
+    propagate::propagate(s, t, Direction::Liveness, n, left)
 }

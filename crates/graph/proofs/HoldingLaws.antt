@@ -37,7 +37,7 @@ use Rattle.blocks.proofs.CodeLaws.{few_successors}
 use Rattle.blocks.proofs.KeptLaws.{ready_kept, block-spared}
 use Rattle.graph.specs.Graph.{Holding, Joined}
 
--- the cells that `join` and `reach` write
+-- the cells that `join` and `reachability` write
 abbrev join_cells : List ℕ
 join_cells = chain_cells ++ sweep_cells
 

@@ -4,7 +4,7 @@ use Rattle.bitset.specs.Sets.{member}
 use Rattle.dataflow.specs.Charges.{building_charges}
 use Rattle.budget.specs.declared.FlowBudget.{FlowBudget}
 use Rattle.budget.specs.declared.Limits.{Limits}
-use Rattle.budget.specs.Budget.{Charged}
+use Rattle.budget.specs.Budget.{Charged, charged}
 use Rattle.memory.specs.Cells.{Mem, cell, store_cell}
 use Rattle.memory.specs.Names.{parameters_row}
 use Rattle.memory.specs.Frame.{Only, ThisRow}
@@ -16,11 +16,10 @@ use Rattle.sheet.specs.Decode.{parts_of}
 use Rattle.script.specs.Script.{flow_code}
 use Rattle.leaders.specs.Index.{Indexed}
 use Rattle.edges.specs.Predecessors.{Linked}
-use Rattle.edges.specs.Reachability.{Reached}
 use Rattle.edges.specs.Flow.{Flows, Fresh}
 use Rattle.blocks.specs.Blocks.{Block}
 use Rattle.rooms.specs.Rooms.{Indexes}
-use Rattle.sizes.specs.Stages.{Staged, if_met, stage, graph_of}
+use Rattle.sizes.specs.Stages.{Staged, stage, graph_of}
 
 -- what the words of scratch hold of a script with whatever set of parameters: its index, every block, the flow graph
 pub record Holding (s : List ℕ) (parameter : ℕ → Bool) (x : Script) (y : Layout) (m : Mem) : Type 0 where
@@ -48,14 +47,14 @@ pub record Joined (parameter : ℕ → Bool) (y : Layout) (m m' : Mem) : Type 0 
   pub parameters : (i : ℕ) → member (cell m' (parameters_row y.blocks)) i ≡ parameter i
   pub only : Only [] (ThisRow (parameters_row y.blocks)) between m'
 
--- what `reach` does
-pub record Reaches (y : Layout) (l : Limits) (b : FlowBudget) (m m' : Mem) (r : Staged) : Type 0 where
-  pub charged_as : Charged
-  pub reached : Reached y l b m m' charged_as
-  pub answer : r ≡ if_met charged_as (λ left. Ok (y, left))
-
 -- what `build` does
 pub record Built (s : List ℕ) (parameter : ℕ → Bool) (x : Script) (y : Layout) (l : Limits) (b : FlowBudget) (m m' t' : Mem) (r : Staged) : Type 0 where
   pub answer : r ≡ stage l (building_charges (flow_code (parts_of s))) y b
   pub holding : (y' : Layout) (left : FlowBudget) → r ≡ Ok (y', left) → Holding s parameter x y m'
   pub fresh : (y' : Layout) (left : FlowBudget) → r ≡ Ok (y', left) → Fresh y t'
+
+-- what `build_cells` does
+pub record BuiltCells (s : List ℕ) (parameter : ℕ → Bool) (x : Script) (y : Layout) (l : Limits) (b : FlowBudget) (m m' t' : Mem) (r : Charged) : Type 0 where
+  pub answer : r ≡ charged l b (building_charges (flow_code (parts_of s)))
+  pub holding : (left : FlowBudget) → r ≡ Ok left → Holding s parameter x y m'
+  pub fresh : (left : FlowBudget) → r ≡ Ok left → Fresh y t'

@@ -9,12 +9,11 @@ use Rattle.dataflow.specs.Search.{Frame}
 use Rattle.memory.specs.Cells.{Mem, cell, word}
 use Rattle.memory.specs.Frame.{Only, NoRow}
 use Rattle.memory.specs.Names.{stack_block_cell, stack_edge_cell}
-use Rattle.memory.specs.Scratch.{edge_words}
 use Rattle.sizes.specs.declared.Layout.{Layout}
 use Rattle.edges.specs.Edges.{Holds, Held}
-use Rattle.edges.proofs.EdgeLaws.{holds-only, edges-within}
+use Rattle.edges.proofs.EdgeLaws.{holds-only}
 use Rattle.order.specs.Postorder.{search_cells}
-use Rattle.order.specs.Turns.{frames_of, stack_of, Facing}
+use Rattle.order.specs.Turns.{frames_of, stack_of}
 
 -- what the word at i of the stack's cells says
 abbrev pub frame_at : (ℕ → List ℕ) → Mem → ℕ → Frame
@@ -80,8 +79,3 @@ pub rest_below : {next : ℕ → List ℕ} {y : Layout} {m : Mem} → Holds next
     → (i : ℕ) → i < length (drop e (next b)) → get_or (drop e (next b)) i 0 < y.blocks
 rest_below {next} h b e lt i g =
     rw (get_or-drop e (next b) i 0) (h.below b (e + i) lt (omega (arith, rw (length-drop e (next b)) at g)))
-
--- an edge that is counted is one of the edges that have words
-pub edge_few : {y : Layout} {m : Mem} {top b n e : ℕ} → Facing y m top b n e → e < edge_words y
-edge_few {y} {b} f =
-    omega (arith, f.left, f.counted, f.held.1.counted b f.inside, edges-within f.held.0 b y.blocks f.inside, f.held.1.few)

@@ -10,9 +10,8 @@ use Rattle.dataflow.proofs.Search.{turns_left, start_left, none_left}
 use Rattle.memory.specs.Cells.{Mem, cell, word}
 use Rattle.memory.specs.Frame.{Only, NoRow}
 use Rattle.memory.specs.Names.{order_cell, stack_block_cell, stack_edge_cell, visited_cell}
-use Rattle.memory.specs.Scratch.{scratch_widths}
+use Rattle.memory.specs.Scratch.{Whole}
 use Rattle.sizes.specs.declared.Layout.{Layout}
-use Rattle.memory.proofs.CellLaws.{Sized}
 use Rattle.memory.proofs.FrameLaws.{only_none, only_then}
 use Rattle.memory.proofs.ScratchLaws.{sized_blocks}
 use Rattle.budget.specs.declared.FlowBudget.{FlowBudget}
@@ -102,20 +101,22 @@ searched-crossed y l b m m' only crossed = record {
 
 module _ (y : Layout) (l : Limits) (b : FlowBudget) (m₀ : Mem) where
   pub record Going (m : Mem) (left : FlowBudget) (top len turn : ℕ) : Type 0 where
+    pub whole : Whole y m
     pub good : Good y m top len
     pub only : Only search_cells NoRow m₀ m
     pub way : (next : ℕ → List ℕ) → Holds next y m₀ → Way next y l b (search_of next m top len) left turn
 
-  pub going_start : 0 < y.blocks → Begun y m₀ → Going m₀ b 1 0 0
-  going_start h s = record {
+  pub going_start : Whole y m₀ → 0 < y.blocks → Begun y m₀ → Going m₀ b 1 0 0
+  going_start z h s = record {
+    whole = z;
     good = s.good;
     only = only_none m₀;
     way = λ next holds. way_start next y l b h (search_of next m₀ 1 0) (s.begins next);
   }
 
-  module _ (m : Mem) (z : Sized (scratch_widths y) m) (left : FlowBudget) (top len turn : ℕ) (g : Going m left top len turn) where
+  module _ (m : Mem) (left : FlowBudget) (top len turn : ℕ) (g : Going m left top len turn) where
     flags : (next : ℕ → List ℕ) → length (search_of next m top len).visited ≡ y.blocks
-    flags next = length-map (cell m visited_cell) marked ∙ sized_blocks y z visited_cell (omega arith) (omega arith)
+    flags next = length-map (cell m visited_cell) marked ∙ sized_blocks y g.whole visited_cell (omega arith) (omega arith)
 
     module _ (h : 0 < top) where
       below : (next : ℕ → List ℕ) → Holds next y m₀ → (i : ℕ) → i < length (frame_at next m (top - 1)).rest
@@ -123,23 +124,24 @@ module _ (y : Layout) (l : Limits) (b : FlowBudget) (m₀ : Mem) where
       below next holds i lt =
           rw (flags next) (rest_below holds (word m stack_block_cell (top - 1)) (word m stack_edge_cell (top - 1)) (g.good.blocks (top - 1) (omega arith)) i lt)
 
-      pub going_more : (m' : Mem) (left' : FlowBudget) (top' len' : ℕ) → charged l left (1 ∷ []) ≡ Ok left'
-          → Turned y m m' top len top' len' → Going m' left' top' len' (turn + 1)
-      going_more m' left' top' len' q t = record {
+      pub going_more : (m' : Mem) (left' : FlowBudget) (top' len' : ℕ) → Ok left' ≡ charged l left (1 ∷ [])
+          → Whole y m' → Turned y m m' top len top' len' → Going m' left' top' len' (turn + 1)
+      going_more m' left' top' len' q z t = record {
+        whole = z;
         good = t.good;
         only = only_then g.only t.only;
         way = λ next holds.
             way_more next y l b (search_of next m top len) left turn (g.way next holds) (frame_at next m (top - 1)) (stack_of next m (top - 1))
-            (stack_top next m top h) (below next holds) left' q (search_of next m' top' len')
+            (stack_top next m top h) (below next holds) left' (sym q) (search_of next m' top' len')
             (t.turns next (holds_kept g.only holds));
       }
 
-      pub going_over : {e : OverWork} → charged l left (1 ∷ []) ≡ Err e → Resumed y l b m₀ m (Err e)
+      pub going_over : {e : OverWork} → Err e ≡ charged l left (1 ∷ []) → Resumed y l b m₀ m (Err e)
       going_over q b₀ first =
           searched-crossed y l b₀ m₀ m g.only (λ next holds.
           met_then l b₀ ((3 * y.blocks) ∷ []) (turn_charges next y.blocks) first
           ∙ way_over next y l b (search_of next m top len) left turn (g.way next holds) (frame_at next m (top - 1)) (stack_of next m (top - 1))
-          (stack_top next m top h) (below next holds) q)
+          (stack_top next m top h) (below next holds) (sym q))
 
     going_end : ((next : ℕ → List ℕ) → Holds next y m₀ → (search_of next m top len).stack ≡ []) → Resumed y l b m₀ m (Ok (len, left))
     going_end stop b₀ e = record {
@@ -158,7 +160,7 @@ module _ (y : Layout) (l : Limits) (b : FlowBudget) (m₀ : Mem) where
         end next holds = way_whole next y l b (search_of next m top len) left turn (g.way next holds) (stop next holds)
 
         fit : len ≤ length (cell m order_cell)
-        fit = rw (sized_blocks y z order_cell (omega arith) (omega arith)) (omega (arith, good_room y m z g.good))
+        fit = rw (sized_blocks y g.whole order_cell (omega arith) (omega arith)) (omega (arith, good_room y m g.whole g.good))
 
     -- no frame is left
     pub going_empty : top ≡ 0 → Resumed y l b m₀ m (Ok (len, left))
@@ -171,11 +173,11 @@ module _ (y : Layout) (l : Limits) (b : FlowBudget) (m₀ : Mem) where
         (omega (arith, (g.way next holds).fuel, all_turns_lem next y.blocks, holds.few)))
 
 -- ---- the whole: the first charge crosses the limit, or the search goes on from words that hold the same graph
-pub searched-over : (y : Layout) (l : Limits) (b : FlowBudget) (m : Mem) {e : OverWork} → charged l b ((3 * y.blocks) ∷ []) ≡ Err e
+pub searched-over : (y : Layout) (l : Limits) (b : FlowBudget) (m : Mem) {e : OverWork} → Err e ≡ charged l b ((3 * y.blocks) ∷ [])
     → Searched y l b m m (Err e)
 searched-over y l b m q =
     searched-crossed y l b m m (only_none m)
-    (λ next holds. over_then l b ((3 * y.blocks) ∷ []) (turn_charges next y.blocks) q)
+    (λ next holds. over_then l b ((3 * y.blocks) ∷ []) (turn_charges next y.blocks) (sym q))
 
 pub searched-kept : (y : Layout) (l : Limits) (b : FlowBudget) (m₀ m m' : Mem) (r : Result (ℕ × FlowBudget) OverWork) → Only search_cells NoRow m₀ m → Searched y l b m m' r
     → Searched y l b m₀ m' r

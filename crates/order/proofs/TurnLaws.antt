@@ -15,7 +15,8 @@ use Rattle.memory.specs.Frame.{Only, NoRow}
 use Rattle.memory.specs.Names.{first_row, order_cell, stack_block_cell, stack_edge_cell, successor_cell, successor_count_cell, visited_cell}
 use Rattle.memory.specs.Scratch.{scratch_widths}
 use Rattle.sizes.specs.declared.Layout.{Layout}
-use Rattle.memory.proofs.CellLaws.{Sized, sized-cell, cell-store_same, cell-store_other, same_word}
+use Rattle.memory.specs.Cells.{Sized}
+use Rattle.memory.proofs.CellLaws.{sized-cell, cell-store_same, cell-store_other, same_word}
 use Rattle.memory.proofs.FrameLaws.{only_none, only_then, only-more, only-cell}
 use Rattle.memory.proofs.ScratchLaws.{sized_among, sized_blocks, width_blocks}
 use Rattle.edges.specs.Edges.{marked, Holds}

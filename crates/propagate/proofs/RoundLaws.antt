@@ -18,7 +18,8 @@ use Rattle.memory.specs.Names.{order_cell, queued_cell, reachable_cell, ring_cel
 use Rattle.memory.specs.Scratch.{scratch_cells, scratch_widths}
 use Rattle.memory.specs.Sets.{sets_widths}
 use Rattle.sizes.specs.declared.Layout.{Layout}
-use Rattle.memory.proofs.CellLaws.{Sized, cell-store_same, cell-store_other}
+use Rattle.memory.specs.Cells.{Sized}
+use Rattle.memory.proofs.CellLaws.{cell-store_same, cell-store_other}
 use Rattle.memory.proofs.ScratchLaws.{scratch_count, sized_blocks}
 use Rattle.memory.proofs.SetsLaws.{sets_count}
 use Rattle.edges.specs.Edges.{marked}
@@ -268,9 +269,9 @@ propagated_on {d} {y} {l} {b} {left} {n} {m} {t} z zt h met low m' t' r e i = an
 -- ---- as the code calls them: scratch after the seeding under a name of its own, and the answer as it is handed on
 
 -- what `drain` requires of scratch
-pub seeded_good-as : (d : Direction) {y : Layout} {n : ℕ} {m m₁ : Mem} → Sized (scratch_widths y) m → Seedable y m n → m₁ ≡ seeded d y n m
+pub good_seeded : (d : Direction) {y : Layout} {n : ℕ} {m m₁ : Mem} → Sized (scratch_widths y) m → Seedable y m n → m₁ ≡ seeded d y n m
     → Good y m₁ (full n)
-seeded_good-as d {y} {n} z h e = subst (λ (x : Mem). Good y x (full n)) (sym e) (seeded_good d z h)
+good_seeded d {y} {n} z h e = subst (λ (x : Mem). Good y x (full n)) (sym e) (seeded_good d z h)
 
 -- the charge of the seeding crossed the limit
 pub propagated_over_as : {d : Direction} {y : Layout} {l : Limits} {b : FlowBudget} {n : ℕ} {m m' t t' : Mem} {c : Charged} {x : OverWork}
@@ -279,9 +280,11 @@ propagated_over_as {d} {y} {l} {b} {n} {m} {m'} {t} {t'} e q =
     subst (λ (k : Charged). Propagated d y l b n m m' t t' k) (sym q) (propagated_over (sym e ∙ q))
 
 -- it was met, and the visits followed
-pub propagated_as : {d : Direction} {y : Layout} {l : Limits} {b left : FlowBudget} {n : ℕ} {m m₁ m' t t' : Mem} (r : Turn)
-    → Sized (scratch_widths y) m → Sized (sets_widths y) t → Seedable y m n → charged l b ((y.blocks + n) ∷ []) ≡ Ok left → m₁ ≡ seeded d y n m
-    → out_of m' t' r ≡ run d y l (l.work + 1 - left.work) (at_of m₁ t (full n)) left → Idle (out_of m' t' r) → Propagated d y l b n m m' t t' (charged_of r)
-propagated_as {d} {y} {l} {b} {left} {n} {m' = m'} {t = t} {t' = t'} r z zt h met em er i =
-    propagated_on z zt h met (met-one l b (y.blocks + n) met).1 m' t' r
+pub propagated_as : {d : Direction} {y y₁ : Layout} {l : Limits} {b left : FlowBudget} {n : ℕ} {m m₁ m' t t' : Mem} (r : Turn)
+    → Sized (scratch_widths y) m → Sized (sets_widths y) t → Seedable y m n → y₁ ≡ y → Ok left ≡ charged l b ((y₁.blocks + n) ∷ [])
+    → m₁ ≡ seeded d y n m → out_of m' t' r ≡ run d y l (l.work + 1 - left.work) (at_of m₁ t (full n)) left → Idle (out_of m' t' r)
+    → Propagated d y l b n m m' t t' (charged_of r)
+propagated_as {d} {y} {l = l} {b = b} {left = left} {n = n} {m' = m'} {t = t} {t' = t'} r z zt h ey met em er i =
+    let met' : charged l b ((y.blocks + n) ∷ []) ≡ Ok left = rw (← ey) (sym met) in
+    propagated_on z zt h met' (met-one l b (y.blocks + n) met').1 m' t' r
     (er ∙ ap (λ (x : Mem). run d y l (l.work + 1 - left.work) (at_of x t (full n)) left) em) i

@@ -2,31 +2,33 @@
 #![tactic(auto)]
 
 ghost use Rattle.std.specs.Prelude.{◌≡◌, ◌-◌, ◌^◌, ◌<◌, length};
-ghost use Rattle.memory.specs.Scratch.{scratch, Room};
-ghost use Rattle.memory.specs.Sets.{sets, SetsRoom};
 ghost use Rattle.propagate.specs.Rounds.{Seedable, Propagated};
 
-use budget::{FlowBudget, Limits, OverWork};
-use sizes::Layout;
+use budget::OverWork;
+use memory::scratch::Scratch;
+use memory::sets::Sets;
+use run::Run;
+use run::meter::Meter;
 use solver::ring::Ring;
 use solver::{drain, seed};
 use transfer::direction::Direction;
 
 // `n` is how many blocks the order has.
-pub fn propagate(
-    s: &mut [u64],
-    t: &mut [u64],
-    y: Layout,
+#[tactic(auto, using(crate::proofs::RoundLaws::propagated_over_as))]
+pub fn propagate<R: Run>(
+    s: &mut Scratch<'_, R>,
+    t: &mut Sets<'_, R>,
     d: Direction,
     n: usize,
-    limits: Limits,
-    budget: FlowBudget,
-) -> Result<FlowBudget, OverWork>
-    requires { Room y (length s.old) × SetsRoom y (length t.old) × Seedable y (scratch y s.old) n × (limits.work < 2 ^ 64 - 1) }
-    ensures { Propagated d y limits budget n (scratch y s.old) (scratch y s.new) (sets y t.old) (sets y t.new) result }
+    meter: Meter<R>,
+) -> Result<Meter<R>, OverWork>
+    requires { Seedable R.layout s.old n × (R.limits.work < 2 ^ 64 - 1) }
+    ensures { Propagated d R.layout R.limits meter n s.old s.new t.old t.new result }
 {
-    let left = budget.charge(y.blocks as u64 + n as u64, limits)?;
-    seed::seed(s, y, d, n);
-    let (_, rest) = drain::drain(s, t, y, Ring { head: 0, count: n }, d, limits, left)?;
+    // Each row of the sets is as wide as the layout says.
+    let _ = t.layout();
+    let left = meter.charge(s.layout().blocks as u64 + n as u64)?;
+    seed::seed(s, d, n);
+    let (_, rest) = drain::drain(s, t, Ring { head: 0, count: n }, d, left)?;
     Ok(rest)
 }

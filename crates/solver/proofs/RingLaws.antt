@@ -10,9 +10,9 @@ use lib.Seq.{get_or-set_same, get_or-set_other}
 use Rattle.dataflow.specs.Lists.{sum}
 use Rattle.memory.specs.Cells.{Mem, cell, word, store, store_cell}
 use Rattle.memory.specs.Names.{queued_cell, reachable_cell, ring_cell, first_row}
-use Rattle.memory.specs.Scratch.{scratch_widths}
+use Rattle.memory.specs.Scratch.{scratch_widths, Whole}
 use Rattle.sizes.specs.declared.Layout.{Layout}
-use Rattle.memory.proofs.CellLaws.{Sized, cell-store_same, cell-store_other}
+use Rattle.memory.proofs.CellLaws.{cell-store_same, cell-store_other, sized-store}
 use Rattle.memory.proofs.ScratchLaws.{sized_among, sized_blocks}
 use Rattle.solver.specs.declared.ring.Ring.{Ring}
 use Rattle.solver.specs.Run.{At, at_of, wrap, pushed, offered, popped, Good, Offers}
@@ -82,7 +82,7 @@ module _ (m : Mem) (d i : ℕ) (h : queued_cell < length m) where
       cell-store_same (store m queued_cell d 1) ring_cell _ (omega (arith, length-set m queued_cell (set (cell m queued_cell) d 1)))
       ∙ ap (λ (ws : List ℕ). set ws i d) (cell-store_other m queued_cell (set (cell m queued_cell) d 1) ring_cell (λ e. omega arith))
 
-module _ (y : Layout) (m : Mem) (z : Sized (scratch_widths y) m) where
+module _ (y : Layout) (m : Mem) (z : Whole y m) where
   -- a mark a block
   marks_long : length (cell m queued_cell) ≡ y.blocks
   marks_long = sized_blocks y z queued_cell (omega arith) (omega arith)
@@ -104,8 +104,13 @@ module _ (y : Layout) (m : Mem) (z : Sized (scratch_widths y) m) where
       same_then (same-cell m queued_cell (set (cell m queued_cell) d 1) (omega arith) refl refl refl refl refl)
       (same-cell (store m queued_cell d 1) ring_cell _ (omega arith) refl refl refl refl refl)
 
+  -- so does how wide the cells are
+  pushed_whole : (t : Mem) (g : Ring) (d : ℕ) → Whole y (pushed y d (at_of m t g)).mem
+  unfolding pushed
+  pushed_whole t g d = sized-store (scratch_widths y) _ ring_cell _ d (sized-store (scratch_widths y) m queued_cell d 1 z)
+
   -- one mark more, and one block more that waits
-  pub pushed_good : (t : Mem) (g : Ring) (d : ℕ) → d < y.blocks → word m queued_cell d ≡ 0 → Good y m g
+  pushed_good : (t : Mem) (g : Ring) (d : ℕ) → d < y.blocks → word m queued_cell d ≡ 0 → Good y m g
       → Good y (pushed y d (at_of m t g)).mem (pushed y d (at_of m t g)).ring
   unfolding pushed
   pushed_good t g d hd u h = record {
@@ -166,11 +171,12 @@ module _ (y : Layout) (d : ℕ) (s : At) {v : ℕ} (e : v ≡ word s.mem reachab
 
 -- what an offer keeps
 pub record Kept (y : Layout) (m : Mem) (s : At) : Type 0 where
+  pub whole : Whole y s.mem
   pub good : Good y s.mem s.ring
   pub edges : SameEdges m s.mem
 
 -- whichever way it goes
-offered-kept : (y : Layout) (m : Mem) → Sized (scratch_widths y) m → (t : Mem) (g : Ring) (d : ℕ) → d < y.blocks → Good y m g
+offered-kept : (y : Layout) (m : Mem) → Whole y m → (t : Mem) (g : Ring) (d : ℕ) → d < y.blocks → Good y m g
     → Kept y m (offered y d (at_of m t g))
 offered-kept y m z t g d hd h = go (ℕ_discrete (word m reachable_cell d) 0) (ℕ_discrete (word m queued_cell d) 0)
   where
@@ -178,13 +184,13 @@ offered-kept y m z t g d hd h = go (ℕ_discrete (word m reachable_cell d) 0) (�
     s = at_of m t g
 
     go : Dec (word m reachable_cell d ≡ 0) → Dec (word m queued_cell d ≡ 0) → Kept y m (offered y d (at_of m t g))
-    go (yes q) r = subst (Kept y m) (offer_unreachable y d s refl q) (record { good = h; edges = same_none m })
+    go (yes q) r = subst (Kept y m) (offer_unreachable y d s refl q) (record { whole = z; good = h; edges = same_none m })
     go (no n) (yes q) =
         subst (Kept y m) (offer_new y d s refl n refl q)
-        (record { good = pushed_good y m z t g d hd q h; edges = pushed_edges y m z t g d })
-    go (no n) (no k) = subst (Kept y m) (offer_marked y d s refl n refl k) (record { good = h; edges = same_none m })
+        (record { whole = pushed_whole y m z t g d; good = pushed_good y m z t g d hd q h; edges = pushed_edges y m z t g d })
+    go (no n) (no k) = subst (Kept y m) (offer_marked y d s refl n refl k) (record { whole = z; good = h; edges = same_none m })
 
 -- as `ring::offer` ensures it
-pub offers_kept : (y : Layout) (m : Mem) → Sized (scratch_widths y) m → {m' : Mem} {g g' : Ring} {d : ℕ} → d < y.blocks → Good y m g
+pub offers_kept : (y : Layout) (m : Mem) → Whole y m → {m' : Mem} {g g' : Ring} {d : ℕ} → d < y.blocks → Good y m g
     → Offers y d m g m' g' → Kept y m (at_of m' [] g')
 offers_kept y m z {g = g} {d = d} hd h o = subst (Kept y m) (sym (o [])) (offered-kept y m z [] g d hd h)

@@ -1,5 +1,5 @@
 -- The ring is filled from the order, word by word. Assumes nothing.
-use mathlib.Core.Path.{◌≡◌, refl, sym, ap, ap₂, ◌∙◌}
+use mathlib.Core.Path.{◌≡◌, refl, sym, ap, ap₂, ◌∙◌, subst}
 use mathlib.Core.List.{List, [], ◌∷◌, ◌++◌, reverse_aux}
 use Prim.Native.Nat.{ℕ, suc, ◌+◌, ◌-◌, ◌≤◌, ◌<◌}
 use native.Mathlib.Omega.{arith}
@@ -10,7 +10,10 @@ use lib.ListN.{length, get_or, set, take, drop, length-append, length-drop, leng
 use lib.Seq.{get_or-take, length-take-le, take_at, set-get_or, paste, paste-suc}
 use Rattle.memory.specs.Cells.{Mem, cell, word, store, store_cell}
 use Rattle.memory.specs.Names.{order_cell, ring_cell}
+use Rattle.memory.specs.Scratch.{Whole}
 use Rattle.memory.proofs.CellLaws.{word-cell_other, store_then}
+use Rattle.memory.proofs.ScratchLaws.{sized_among, sized_blocks}
+use Rattle.sizes.specs.declared.Layout.{Layout}
 use Rattle.transfer.specs.declared.direction.Direction.{Direction}
 use Rattle.transfer.specs.declared.direction.Direction.TheVariants.{Initialization, Liveness}
 use Rattle.solver.specs.Run.{queue_of, place_of, in_ring}
@@ -42,9 +45,9 @@ reversed_at (x ∷ l) r i h = go (dec_lt i (length l)) (λ lt. reversed_at l (x 
 -- ---- the first n of the order, as they are to wait
 
 -- each comes from one of the n places
-pub place-below : (d : Direction) (n i : ℕ) → i < n → place_of d n i < n
-place-below Initialization n i h = omega arith
-place-below Liveness n i h = h
+pub place_below : (d : Direction) (n i : ℕ) → i < n → place_of d n i < n
+place_below Initialization n i h = omega arith
+place_below Liveness n i h = h
 
 module _ (n : ℕ) (order : List ℕ) (h : n ≤ length order) where
   -- there are n
@@ -61,52 +64,71 @@ module _ (n : ℕ) (order : List ℕ) (h : n ≤ length order) where
   queue-at Liveness i lt = get_or-take n order i 0 lt
 
 -- ---- the loop
-module _ (d : Direction) (n : ℕ) (m : Mem) where
+module _ (y : Layout) (d : Direction) (n : ℕ) (m : Mem) where
   -- what the ring is to be
   abbrev pub target : List ℕ
   target = queue_of d (take n (cell m order_cell)) ++ drop n (cell m ring_cell)
 
-  -- i words of the ring are filled, and the words are m₁
+  -- i words of the ring are filled, and the words are m₁; each cell is as wide as the layout says, which the first of them tells
   pub record Seeding (i : ℕ) (m₁ : Mem) : Type 0 where
     pub is : m₁ ≡ store_cell m ring_cell (paste (cell m ring_cell) 0 target i)
+    pub whole : 0 < i → Whole y m
 
-  -- before the first word
-  pub seeding_none : Seeding 0 m
-  seeding_none = record { is = sym (set-get_or m ring_cell []) }
+  whole-before : {i : ℕ} {m₁ : Mem} → Seeding i m₁ → Whole y m₁ → Whole y m
+  whole-before {i} {m₁} g z = go (dec_lt 0 i)
+    where
+      go : Dec (0 < i) → Whole y m
+      go (yes h) = g.whole h
+      go (no h) =
+          let e : i ≡ 0 = omega arith in
+          subst (Whole y)
+          (g.is ∙ ap (λ (k : ℕ). store_cell m ring_cell (paste (cell m ring_cell) 0 target k)) e ∙ set-get_or m ring_cell []) z
 
-  module _ (among : ring_cell < length m) (ho : n ≤ length (cell m order_cell)) (hr : n ≤ length (cell m ring_cell)) where
-    -- as long as the ring
-    target-length : length target ≡ length (cell m ring_cell)
-    target-length =
-        length-append (queue_of d (take n (cell m order_cell))) (drop n (cell m ring_cell))
-        ∙ omega (arith, queue_length n (cell m order_cell) ho d, length-drop n (cell m ring_cell))
+  module _ (few : n ≤ y.blocks) where
+    module _ (z : Whole y m) where
+      ordered : n ≤ length (cell m order_cell)
+      ordered = omega (arith, sized_blocks y z order_cell (omega arith) (omega arith))
 
-    -- with the blocks of the order in their places
-    target_at : (i : ℕ) → i < n → get_or target i 0 ≡ word m order_cell (place_of d n i)
-    target_at i lt =
-        get_or-append (queue_of d (take n (cell m order_cell))) (drop n (cell m ring_cell)) 0 i
-        (omega (arith, queue_length n (cell m order_cell) ho d))
-        ∙ queue-at n (cell m order_cell) ho d i lt
+      ring-length : length (cell m ring_cell) ≡ y.blocks
+      ring-length = sized_blocks y z ring_cell (omega arith) (omega arith)
+
+      -- as long as the ring
+      target-length : length target ≡ length (cell m ring_cell)
+      target-length =
+          length-append (queue_of d (take n (cell m order_cell))) (drop n (cell m ring_cell))
+          ∙ omega (arith, queue_length n (cell m order_cell) ordered d, length-drop n (cell m ring_cell), ring-length)
+
+      -- with the blocks of the order in their places
+      target_at : (i : ℕ) → i < n → get_or target i 0 ≡ word m order_cell (place_of d n i)
+      target_at i lt =
+          get_or-append (queue_of d (take n (cell m order_cell))) (drop n (cell m ring_cell)) 0 i
+          (omega (arith, queue_length n (cell m order_cell) ordered d))
+          ∙ queue-at n (cell m order_cell) ordered d i lt
 
     -- one more word
-    pub seeding_more : {i : ℕ} {m₁ m₂ : Mem} {p v : ℕ} → i < n → Seeding i m₁ → p ≡ place_of d n i → v ≡ word m₁ order_cell p
+    pub seeding_more : {i : ℕ} {m₁ m₂ : Mem} {p v : ℕ} → i < n → Seeding i m₁ → Whole y m₁ → p ≡ place_of d n i → v ≡ word m₁ order_cell p
         → m₂ ≡ store m₁ ring_cell i v → Seeding (i + 1) m₂
-    seeding_more {i} {m₁} {m₂} {p} {v} lt g ep ev e₂ = record {
+    seeding_more {i} {m₁} {m₂} {p} {v} lt g w ep ev e₂ = record {
       is =
-          e₂ ∙ store_then m ring_cell here (λ w ws. set ws i v) among refl g.is
+          e₂ ∙ store_then m ring_cell here (λ u ws. set ws i v) (sized_among y z (omega arith)) refl g.is
           ∙ ap (store_cell m ring_cell)
-          (ap₂ (set here) (sym (zero-add i)) value ∙ paste-suc (cell m ring_cell) 0 target i 0 (omega arith) (omega (arith, target-length))
+          (ap₂ (set here) (sym (zero-add i)) value
+          ∙ paste-suc (cell m ring_cell) 0 target i 0 (omega (arith, ring-length z)) (omega (arith, target-length z, ring-length z))
           ∙ ap (paste (cell m ring_cell) 0 target) (sym (add-one i)));
+      whole = λ h. z;
     }
       where
+        z : Whole y m
+        z = whole-before g w
+
         here : List ℕ
         here = paste (cell m ring_cell) 0 target i
 
         value : v ≡ get_or target i 0
         value =
-            ev ∙ ap₂ (λ (w : Mem) (k : ℕ). word w order_cell k) g.is ep
+            ev ∙ ap₂ (λ (u : Mem) (k : ℕ). word u order_cell k) g.is ep
             ∙ word-cell_other m ring_cell here order_cell (place_of d n i) (λ q. omega arith)
-            ∙ sym (target_at i lt)
+            ∙ sym (target_at z i lt)
 
     -- all n
     pub seeding_all : {i : ℕ} {m₁ : Mem} → i ≡ n → Seeding i m₁ → m₁ ≡ in_ring d n m
@@ -114,4 +136,9 @@ module _ (d : Direction) (n : ℕ) (m : Mem) where
     seeding_all {i} {m₁} e g =
         g.is ∙ ap (λ (k : ℕ). store_cell m ring_cell (paste (cell m ring_cell) 0 target k)) e
         ∙ ap₂ (λ (k : ℕ) (ws : List ℕ). store_cell m ring_cell (ws ++ drop k (cell m ring_cell))) (zero-add n)
-        (take_at (queue_of d (take n (cell m order_cell))) (drop n (cell m ring_cell)) n (queue_length n (cell m order_cell) ho d))
+        (take_at (queue_of d (take n (cell m order_cell))) (drop n (cell m ring_cell)) n
+        (queue_length n (cell m order_cell) (go (dec_lt 0 n)) d))
+      where
+        go : Dec (0 < n) → n ≤ length (cell m order_cell)
+        go (yes h) = ordered (g.whole (omega arith))
+        go (no h) = omega arith

@@ -1,33 +1,35 @@
 // The ring of waiting blocks, in the cells RING and QUEUED.
-ghost use Rattle.std.specs.Prelude.{◌≡◌, ◌+◌, ◌≤◌, ◌<◌, length};
-ghost use Rattle.memory.specs.Scratch.{scratch, Room};
+ghost use Rattle.std.specs.Prelude.{◌≡◌, ◌+◌, ◌≤◌, ◌<◌};
 ghost use Rattle.solver.specs.Run.{wrap, Pushes, Offers};
 
-use memory::layout;
-use sizes::Layout;
+use memory::names::Cell;
+use memory::scratch::Scratch;
+use run::Run;
 
 // Where the first of the waiting blocks stands, and how many wait.
-#[derive(Clone, Copy)]
+#[derive(Clone, Copy, PartialEq, Eq, Debug)]
 pub struct Ring {
     pub head: usize,
     pub count: usize,
 }
 
 // A place of the ring: behind the last one comes the first.
-pub fn wrapped(y: Layout, at: usize) -> usize
-    ensures { result ≡ wrap y at }
+pub fn wrapped<R: Run>(s: &Scratch<'_, R>, at: usize) -> usize
+    ensures { result ≡ wrap R.layout at }
 {
-    if at < y.blocks { at } else { at - y.blocks }
+    let blocks = s.layout().blocks;
+    if at < blocks { at } else { at - blocks }
 }
 
 // A block joins the ring, with its mark.
-fn push(s: &mut [u64], y: Layout, ring: Ring, block: usize) -> Ring
-    requires { Room y (length s.old) × (block < y.blocks) × (ring.head < y.blocks) × (ring.count ≤ y.blocks) }
-    ensures { Pushes y block (scratch y s.old) ring (scratch y s.new) result }
+#[tactic(auto, unfolding(crate::specs::Run::pushed))]
+fn push<R: Run>(s: &mut Scratch<'_, R>, ring: Ring, block: usize) -> Ring
+    requires { (block < R.layout.blocks) × (ring.head < R.layout.blocks) × (ring.count ≤ R.layout.blocks) }
+    ensures { Pushes R.layout block s.old ring s.new result }
 {
-    memory::scratch::put(s, y, layout::QUEUED, block, 1);
-    let at = wrapped(y, ring.head + ring.count);
-    memory::scratch::put(s, y, layout::RING, at, block as u64);
+    s.put(Cell::Queued, block, 1);
+    let at = wrapped(s, ring.head + ring.count);
+    s.put(Cell::Ring, at, block as u64);
     Ring {
         head: ring.head,
         count: ring.count + 1,
@@ -35,15 +37,16 @@ fn push(s: &mut [u64], y: Layout, ring: Ring, block: usize) -> Ring
 }
 
 // The same if it is reachable and has no mark.
-pub fn offer(s: &mut [u64], y: Layout, ring: Ring, block: usize) -> Ring
-    requires { Room y (length s.old) × (block < y.blocks) × (ring.head < y.blocks) × (ring.count ≤ y.blocks) }
-    ensures { Offers y block (scratch y s.old) ring (scratch y s.new) result }
+#[tactic(auto, using(crate::proofs::RingLaws::offer_unreachable, crate::proofs::RingLaws::offer_marked))]
+pub fn offer<R: Run>(s: &mut Scratch<'_, R>, ring: Ring, block: usize) -> Ring
+    requires { (block < R.layout.blocks) × (ring.head < R.layout.blocks) × (ring.count ≤ R.layout.blocks) }
+    ensures { Offers R.layout block s.old ring s.new result }
 {
-    if memory::scratch::get(s, y, layout::REACHABLE, block) == 0 {
+    if s.get(Cell::Reachable, block) == 0 {
         return ring;
     }
-    if memory::scratch::get(s, y, layout::QUEUED, block) != 0 {
+    if s.get(Cell::Queued, block) != 0 {
         return ring;
     }
-    push(s, y, ring, block)
+    push(s, ring, block)
 }

@@ -1,39 +1,41 @@
 // The beginning of `propagate`: who waits, and who is marked.
-ghost use Rattle.std.specs.Prelude.{◌≡◌, ◌≤◌, ◌<◌, length};
-ghost use Rattle.memory.specs.Scratch.{scratch, Room};
+ghost use Rattle.std.specs.Prelude.{◌≡◌, ◌≤◌, ◌<◌};
 ghost use Rattle.solver.specs.Run.{place_of, cleared, seeded, in_ring};
 
-use memory::layout;
-use sizes::Layout;
+use memory::names::Cell;
+use memory::scratch::Scratch;
+use run::Run;
 use transfer::direction::Direction;
 
 // Every reachable block is marked, and the first n of the order wait.
-pub fn seed(s: &mut [u64], y: Layout, d: Direction, n: usize)
-    requires { Room y (length s.old) × (n ≤ y.blocks) }
-    ensures { scratch y s.new ≡ seeded d y n (scratch y s.old) }
+#[tactic(auto, unfolding(crate::specs::Run::seeded))]
+pub fn seed<R: Run>(s: &mut Scratch<'_, R>, d: Direction, n: usize)
+    requires { n ≤ R.layout.blocks }
+    ensures { s.new ≡ seeded d R.layout n s.old }
 {
-    mark_reachable(s, y);
-    queue(s, y, d, n);
+    mark_reachable(s);
+    queue(s, d, n);
 }
 
 // The marks are those of the reachable blocks; the ring is cleared of what was lent.
-fn mark_reachable(s: &mut [u64], y: Layout)
-    requires { Room y (length s.old) }
-    ensures { scratch y s.new ≡ cleared y (scratch y s.old) }
+#[tactic(auto, unfolding(crate::specs::Run::cleared))]
+fn mark_reachable<R: Run>(s: &mut Scratch<'_, R>)
+    ensures { s.new ≡ cleared R.layout s.old }
 {
-    memory::scratch::copy(s, y, layout::QUEUED, layout::REACHABLE);
-    memory::scratch::clear(s, y, layout::RING);
+    s.copy(Cell::Queued, Cell::Reachable);
+    s.clear(Cell::Ring);
 }
 
 // The order from its back for initialization, from its front for liveness.
-fn queue(s: &mut [u64], y: Layout, d: Direction, n: usize)
-    requires { Room y (length s.old) × (n ≤ y.blocks) }
-    ensures { scratch y s.new ≡ in_ring d n (scratch y s.old) }
+#[tactic(auto, using(crate::proofs::SeedLaws::place_below))]
+fn queue<R: Run>(s: &mut Scratch<'_, R>, d: Direction, n: usize)
+    requires { n ≤ R.layout.blocks }
+    ensures { s.new ≡ in_ring d n s.old }
 {
     for i in 0..n {
         let from = place(d, n, i);
-        let block = memory::scratch::get(s, y, layout::ORDER, from);
-        memory::scratch::put(s, y, layout::RING, i, block);
+        let block = s.get(Cell::Order, from);
+        s.put(Cell::Ring, i, block);
     }
 }
 

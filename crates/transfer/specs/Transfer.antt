@@ -8,15 +8,28 @@ use Rattle.memory.specs.Names.{reachable_cell, uses_row, defines_row, state_row,
 use Rattle.sizes.specs.declared.Layout.{Layout}
 use Rattle.transfer.specs.declared.direction.Direction.{Direction}
 use Rattle.transfer.specs.declared.direction.Direction.TheVariants.{Initialization, Liveness}
+use Rattle.memory.specs.declared.names.SlotRow.{SlotRow}
+use Rattle.memory.specs.declared.names.SlotRow.TheVariants.{State, LiveState}
+use Rattle.memory.specs.declared.names.BlockSet.{BlockSet}
+use Rattle.memory.specs.declared.names.BlockSet.TheVariants.{Initialized, Live}
 use Rattle.memory.specs.Edges.{neighbors}
 use Rattle.transfer.specs.Directions.{reads_of}
 
--- the row in which a round computes
+-- the row in which a round computes, and the set that it keeps for block b
+abbrev pub running_of : Direction → SlotRow
+running_of Initialization = State
+running_of Liveness = LiveState
+
+abbrev pub kept_of : Direction → ℕ → BlockSet
+kept_of Initialization b = Initialized b
+kept_of Liveness b = Live b
+
+-- the row in which a round computes, by its cell
 abbrev pub running_row : Direction → Layout → ℕ
 running_row Initialization y = state_row y.blocks
 running_row Liveness y = live_state_row y.blocks
 
--- the row that a round keeps for block b, in the sets buffer
+-- and the row that it keeps for block b, in the sets buffer
 abbrev pub kept_row : Direction → ℕ → ℕ
 kept_row Initialization b = initialized_row b
 kept_row Liveness b = live_row b

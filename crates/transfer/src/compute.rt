@@ -1,178 +1,202 @@
 // What a visit computes.
-ghost use Rattle.std.specs.Prelude.{◌≡◌, map, ◌+◌, ◌-◌, ◌<◌, ◌≤◌, length, replicate};
-ghost use Rattle.bitset.specs.Sets.{ones};
+ghost use Rattle.std.specs.Prelude.{◌≡◌, map, ◌+◌, ◌-◌, ◌<◌, length, replicate};
+ghost use Rattle.bitset.specs.Sets.{ones, Words};
 ghost use Rattle.dataflow.specs.Lists.{tabulate};
 ghost use Rattle.memory.specs.Cells.{cell, word, store_cell};
 ghost use Rattle.memory.specs.Names.{successor_count_cell};
+ghost use Rattle.memory.specs.Named.{row_of, RowThere};
 ghost use Rattle.memory.specs.Edges.{successor_at, source_of, next_edge, chain_from, Chain, Connected};
-ghost use Rattle.memory.specs.Scratch.{scratch, Room};
-ghost use Rattle.memory.specs.Sets.{sets, SetsRoom};
 ghost use Rattle.transfer.specs.declared.direction.Direction.TheVariants.{Initialization, Liveness};
-ghost use Rattle.transfer.specs.Transfer.{running_row, kept_row, entry_of, gather_one, gather_all, gathered, transferred, computed};
+ghost use Rattle.transfer.specs.Transfer.{running_of, kept_of, running_row, entry_of, gather_one, gather_all, gathered, transferred, computed};
 
 use crate::direction::Direction;
-use memory::{edges, layout};
-use sizes::Layout;
+use memory::edges;
+use memory::names::{BlockSet, Cell, SlotRow};
+use memory::scratch::Scratch;
+use memory::sets::Sets;
+use run::Run;
 
-// The cell of the running row.
-pub fn running(y: Layout, d: Direction) -> usize
-    requires { y.blocks ≤ 65536 }
-    ensures { result ≡ running_row d y }
+// The running row.
+pub fn running(d: Direction) -> SlotRow
+    ensures { result ≡ running_of d }
 {
     match d {
-        Direction::Initialization => layout::state(y),
-        Direction::Liveness => layout::live_state(y),
+        Direction::Initialization => SlotRow::State,
+        Direction::Liveness => SlotRow::LiveState,
     }
 }
 
-// The cell of the row that is kept for a block.
-pub fn kept(y: Layout, d: Direction, block: usize) -> usize
-    requires { (block < y.blocks) × (y.blocks ≤ 65536) }
-    ensures { result ≡ kept_row d block }
+// The set that is kept for a block.
+pub fn kept(d: Direction, block: usize) -> BlockSet
+    ensures { result ≡ kept_of d block }
 {
     match d {
-        Direction::Initialization => layout::initialized(y, block),
-        Direction::Liveness => layout::live(y, block),
+        Direction::Initialization => BlockSet::Initialized(block),
+        Direction::Liveness => BlockSet::Live(block),
     }
+}
+
+// A row becomes words, which are numbers of 64 bits.
+fn load<R: Run>(s: &mut Scratch<'_, R>, row: SlotRow, words: &[u64])
+    requires { RowThere R.layout row × (length words.now ≡ R.layout.words) }
+    ensures stored { s.new ≡ store_cell s.old (row_of R.layout row) words.now }
+    ensures fits { Words R.layout.words words.now }
+{
+    s.change(
+        row,
+        |into|
+            requires { length into.old ≡ length words.now }
+            ensures { into.new ≡ words.entry.now }
+        { into.copy_from_slice(words) },
+    );
 }
 
 // The parameters at block 0, all slots at another.
-fn begin_initialized(s: &mut [u64], y: Layout, block: usize)
-    requires { Room y (length s.old) }
-    ensures { scratch y s.new ≡ store_cell (scratch y s.old) (running_row Initialization y) (entry_of Initialization y (scratch y s.old) block) }
+#[tactic(auto, unfolding(crate::specs::Transfer::entry_of))]
+fn begin_initialized<R: Run>(s: &mut Scratch<'_, R>, block: usize)
+    ensures { s.new ≡ store_cell s.old (running_row Initialization R.layout) (entry_of Initialization R.layout s.old block) }
 {
     if block == 0 {
-        rows::copy(s, y, layout::state(y), layout::parameters(y));
+        s.copy_row(SlotRow::State, SlotRow::Parameters);
         return;
     }
-    rows::fill(s, y, layout::state(y), u64::MAX);
+    s.fill(SlotRow::State, u64::MAX);
 }
 
 // The running row keeps what is initialized at the exit of a predecessor that is reachable.
-fn meet_one(s: &mut [u64], t: &[u64], y: Layout, block: usize)
-    requires { Room y (length s.old) × SetsRoom y (length t.now) × (block < y.blocks) }
-    ensures { scratch y s.new ≡ store_cell (scratch y s.old) (running_row Initialization y) (gather_one Initialization (scratch y s.old) (sets y t.now) block (cell (scratch y s.old) (running_row Initialization y))) }
+#[tactic(auto, unfolding(crate::specs::Transfer::gather_one))]
+fn meet_one<R: Run>(s: &mut Scratch<'_, R>, t: &Sets<'_, R>, block: usize)
+    requires { block < R.layout.blocks }
+    ensures { s.new ≡ store_cell s.old (running_row Initialization R.layout) (gather_one Initialization s.old t.now block (cell s.old (running_row Initialization R.layout))) }
 {
-    if memory::scratch::get(s, y, layout::REACHABLE, block) != 0 {
-        rows::meet_from(s, y, layout::state(y), t, layout::initialized(y, block));
+    if s.get(Cell::Reachable, block) != 0 {
+        s.meet_set(SlotRow::State, t, BlockSet::Initialized(block));
     }
 }
 
 // What a predecessor keeps is met with the parameters at block 0, with all slots at another.
-fn begin_met(s: &mut [u64], t: &[u64], y: Layout, block: usize, from: usize)
-    requires { Room y (length s.old) × SetsRoom y (length t.now) × (from < y.blocks) }
-    ensures { scratch y s.new ≡ store_cell (scratch y s.old) (running_row Initialization y) (gather_one Initialization (scratch y s.old) (sets y t.now) from (entry_of Initialization y (scratch y s.old) block)) }
+#[tactic(auto, unfolding(crate::specs::Transfer::entry_of))]
+fn begin_met<R: Run>(s: &mut Scratch<'_, R>, t: &Sets<'_, R>, block: usize, from: usize)
+    requires { from < R.layout.blocks }
+    ensures { s.new ≡ store_cell s.old (running_row Initialization R.layout) (gather_one Initialization s.old t.now from (entry_of Initialization R.layout s.old block)) }
 {
     if block != 0 {
-        begin_all(s, t, y, from);
+        begin_all(s, t, from);
         return;
     }
-    begin_initialized(s, y, block);
-    meet_one(s, t, y, from);
+    begin_initialized(s, block);
+    meet_one(s, t, from);
 }
 
 // All slots, met with what is initialized at the exit of a predecessor that is reachable.
-fn begin_all(s: &mut [u64], t: &[u64], y: Layout, block: usize)
-    requires { Room y (length s.old) × SetsRoom y (length t.now) × (block < y.blocks) }
-    ensures { scratch y s.new ≡ store_cell (scratch y s.old) (running_row Initialization y) (gather_one Initialization (scratch y s.old) (sets y t.now) block (replicate y.words ones)) }
+#[tactic(auto, using(crate::proofs::TransferLaws::gather_unreachable, crate::proofs::TransferLaws::met_all))]
+fn begin_all<R: Run>(s: &mut Scratch<'_, R>, t: &Sets<'_, R>, block: usize)
+    requires { block < R.layout.blocks }
+    ensures { s.new ≡ store_cell s.old (running_row Initialization R.layout) (gather_one Initialization s.old t.now block (replicate R.layout.words ones)) }
 {
-    if memory::scratch::get(s, y, layout::REACHABLE, block) == 0 {
-        rows::fill(s, y, layout::state(y), u64::MAX);
+    if s.get(Cell::Reachable, block) == 0 {
+        s.fill(SlotRow::State, u64::MAX);
         return;
     }
-    rows::take(s, y, layout::state(y), t, layout::initialized(y, block));
+    load(s, SlotRow::State, t.row(BlockSet::Initialized(block)));
 }
 
 // The running row is met with what the predecessors at the n edges behind an edge keep.
-fn meet_rest(s: &mut [u64], t: &[u64], y: Layout, first: usize, n: usize)
-    requires { Room y (length s.old) × SetsRoom y (length t.now) × Chain y (scratch y s.old) (n + 1) 0 first }
-    ensures { scratch y s.new ≡ store_cell (scratch y s.old) (running_row Initialization y) (gather_all Initialization (scratch y s.old) (sets y t.now) (map source_of (chain_from (scratch y s.old) n (next_edge (scratch y s.old) first))) (cell (scratch y s.old) (running_row Initialization y))) }
+#[tactic(auto, using(crate::proofs::TransferLaws::meeting_none, crate::proofs::TransferLaws::meeting_from))]
+fn meet_rest<R: Run>(s: &mut Scratch<'_, R>, t: &Sets<'_, R>, first: usize, n: usize)
+    requires { Chain R.layout s.old (n + 1) 0 first }
+    ensures { s.new ≡ store_cell s.old (running_row Initialization R.layout) (gather_all Initialization s.old t.now (map source_of (chain_from s.old n (next_edge s.old first))) (cell s.old (running_row Initialization R.layout))) }
 {
     let mut edge = first;
     for _ in 0..n {
-        edge = edges::next(s, y, edge) as usize;
-        meet_one(s, t, y, edges::source(edge));
+        edge = s.next_edge(edge) as usize;
+        meet_one(s, t, edges::source(edge));
     }
 }
 
 // The running row becomes `incoming` of a block.
-fn incoming(s: &mut [u64], t: &[u64], y: Layout, block: usize)
-    requires { Room y (length s.old) × SetsRoom y (length t.now) × (block < y.blocks) × Connected y (scratch y s.old) }
-    ensures { scratch y s.new ≡ store_cell (scratch y s.old) (running_row Initialization y) (gathered Initialization y (scratch y s.old) (sets y t.now) block) }
+#[tactic(auto, using(crate::proofs::TransferLaws::first_source, crate::proofs::TransferLaws::meets))]
+fn incoming<R: Run>(s: &mut Scratch<'_, R>, t: &Sets<'_, R>, block: usize)
+    requires { (block < R.layout.blocks) × Connected R.layout s.old }
+    ensures { s.new ≡ store_cell s.old (running_row Initialization R.layout) (gathered Initialization R.layout s.old t.now block) }
 {
-    let n = memory::scratch::get(s, y, layout::PREDECESSOR_COUNT, block) as usize;
+    let n = s.get(Cell::PredecessorCount, block) as usize;
     if n == 0 {
-        begin_initialized(s, y, block);
+        begin_initialized(s, block);
         return;
     }
-    let first = memory::scratch::get(s, y, layout::FIRST_EDGE, block) as usize;
-    begin_met(s, t, y, block, edges::source(first));
-    meet_rest(s, t, y, first, n - 1);
+    let first = s.get(Cell::FirstEdge, block) as usize;
+    begin_met(s, t, block, edges::source(first));
+    meet_rest(s, t, first, n - 1);
 }
 
 // The running row is joined with what the successors of a block keep, of which it has n, from the second on.
-fn join_rest(s: &mut [u64], t: &[u64], y: Layout, block: usize, n: usize)
-    requires { Room y (length s.old) × SetsRoom y (length t.now) × (block < y.blocks) × (n ≡ word (scratch y s.old) successor_count_cell block) × Connected y (scratch y s.old) }
-    ensures { scratch y s.new ≡ store_cell (scratch y s.old) (running_row Liveness y) (gather_all Liveness (scratch y s.old) (sets y t.now) (tabulate 1 (n - 1) (successor_at (scratch y s.old) block)) (cell (scratch y s.old) (running_row Liveness y))) }
+fn join_rest<R: Run>(s: &mut Scratch<'_, R>, t: &Sets<'_, R>, block: usize, n: usize)
+    requires { (block < R.layout.blocks) × (n ≡ word s.old successor_count_cell block) × Connected R.layout s.old }
+    ensures { s.new ≡ store_cell s.old (running_row Liveness R.layout) (gather_all Liveness s.old t.now (tabulate 1 (n - 1) (successor_at s.old block)) (cell s.old (running_row Liveness R.layout))) }
 {
     for k in 1..n {
-        let to = edges::successor(s, y, block, n, k) as usize;
-        rows::join_from(s, y, layout::live_state(y), t, layout::live(y, to));
+        let to = s.successor(block, n, k) as usize;
+        s.join_set(SlotRow::LiveState, t, BlockSet::Live(to));
     }
 }
 
 // The running row becomes `live_out` of a block.
-fn live_out(s: &mut [u64], t: &[u64], y: Layout, block: usize)
-    requires { Room y (length s.old) × SetsRoom y (length t.now) × (block < y.blocks) × Connected y (scratch y s.old) }
-    ensures { scratch y s.new ≡ store_cell (scratch y s.old) (running_row Liveness y) (gathered Liveness y (scratch y s.old) (sets y t.now) block) }
+#[tactic(auto, using(crate::proofs::TransferLaws::first_to, crate::proofs::TransferLaws::first_counted, crate::proofs::TransferLaws::first_connected))]
+fn live_out<R: Run>(s: &mut Scratch<'_, R>, t: &Sets<'_, R>, block: usize)
+    requires { (block < R.layout.blocks) × Connected R.layout s.old }
+    ensures { s.new ≡ store_cell s.old (running_row Liveness R.layout) (gathered Liveness R.layout s.old t.now block) }
 {
-    let n = memory::scratch::get(s, y, layout::SUCCESSOR_COUNT, block) as usize;
+    let n = s.get(Cell::SuccessorCount, block) as usize;
     if n == 0 {
-        rows::fill(s, y, layout::live_state(y), 0);
+        s.fill(SlotRow::LiveState, 0);
         return;
     }
-    let to = edges::successor(s, y, block, n, 0) as usize;
-    rows::take(s, y, layout::live_state(y), t, layout::live(y, to));
-    join_rest(s, t, y, block, n);
+    let to = s.successor(block, n, 0) as usize;
+    load(s, SlotRow::LiveState, t.row(BlockSet::Live(to)));
+    join_rest(s, t, block, n);
 }
 
 // The running row becomes what a block gathers from its neighbors.
-pub fn gather(s: &mut [u64], t: &[u64], y: Layout, d: Direction, block: usize)
-    requires { Room y (length s.old) × SetsRoom y (length t.now) × (block < y.blocks) × Connected y (scratch y s.old) }
-    ensures { scratch y s.new ≡ store_cell (scratch y s.old) (running_row d y) (gathered d y (scratch y s.old) (sets y t.now) block) }
+pub fn gather<R: Run>(s: &mut Scratch<'_, R>, t: &Sets<'_, R>, d: Direction, block: usize)
+    requires { (block < R.layout.blocks) × Connected R.layout s.old }
+    ensures { s.new ≡ store_cell s.old (running_row d R.layout) (gathered d R.layout s.old t.now block) }
 {
     match d {
-        Direction::Initialization => incoming(s, t, y, block),
-        Direction::Liveness => live_out(s, t, y, block),
+        Direction::Initialization => incoming(s, t, block),
+        Direction::Liveness => live_out(s, t, block),
     }
 }
 
 // The running row goes through the block.
-fn transfer(s: &mut [u64], y: Layout, d: Direction, block: usize)
-    requires { Room y (length s.old) × (block < y.blocks) }
-    ensures { scratch y s.new ≡ store_cell (scratch y s.old) (running_row d y) (transferred d (scratch y s.old) block (cell (scratch y s.old) (running_row d y))) }
+#[tactic(auto, unfolding(crate::specs::Transfer::transferred))]
+fn transfer<R: Run>(s: &mut Scratch<'_, R>, d: Direction, block: usize)
+    requires { block < R.layout.blocks }
+    ensures { s.new ≡ store_cell s.old (running_row d R.layout) (transferred d s.old block (cell s.old (running_row d R.layout))) }
 {
     match d {
-        Direction::Initialization => rows::join(s, y, layout::state(y), layout::defines(y, block)),
-        Direction::Liveness => transfer_live(s, y, block),
+        Direction::Initialization => s.join_row(SlotRow::State, SlotRow::Defines(block)),
+        Direction::Liveness => transfer_live(s, block),
     }
 }
 
 // What the block defines goes, what it uses comes.
-fn transfer_live(s: &mut [u64], y: Layout, block: usize)
-    requires { Room y (length s.old) × (block < y.blocks) }
-    ensures { scratch y s.new ≡ store_cell (scratch y s.old) (running_row Liveness y) (transferred Liveness (scratch y s.old) block (cell (scratch y s.old) (running_row Liveness y))) }
+#[tactic(auto, unfolding(crate::specs::Transfer::transferred))]
+fn transfer_live<R: Run>(s: &mut Scratch<'_, R>, block: usize)
+    requires { block < R.layout.blocks }
+    ensures { s.new ≡ store_cell s.old (running_row Liveness R.layout) (transferred Liveness s.old block (cell s.old (running_row Liveness R.layout))) }
 {
-    let defines = layout::defines(y, block);
-    let uses = layout::uses(y, block);
-    rows::replace(s, y, layout::live_state(y), defines, uses);
+    let defines = SlotRow::Defines(block);
+    let uses = SlotRow::Uses(block);
+    s.replace_row(SlotRow::LiveState, defines, uses);
 }
 
 // The running row becomes the new set of a block.
-pub fn compute(s: &mut [u64], t: &[u64], y: Layout, d: Direction, block: usize)
-    requires { Room y (length s.old) × SetsRoom y (length t.now) × (block < y.blocks) × Connected y (scratch y s.old) }
-    ensures { scratch y s.new ≡ store_cell (scratch y s.old) (running_row d y) (computed d y (scratch y s.old) (sets y t.now) block) }
+#[tactic(auto, using(crate::proofs::TransferLaws::computes))]
+pub fn compute<R: Run>(s: &mut Scratch<'_, R>, t: &Sets<'_, R>, d: Direction, block: usize)
+    requires { (block < R.layout.blocks) × Connected R.layout s.old }
+    ensures { s.new ≡ store_cell s.old (running_row d R.layout) (computed d R.layout s.old t.now block) }
 {
-    gather(s, t, y, d, block);
-    transfer(s, y, d, block);
+    gather(s, t, d, block);
+    transfer(s, d, block);
 }

@@ -4,8 +4,8 @@ ghost use Rattle.transfer.specs.Directions.{reads_of};
 
 use memory::edges::Side;
 
-// `Direction` of solver.rs, an enum as there.
-#[derive(Clone, Copy)]
+// `Direction` of solver.rs, no trait or closure: the definitions go by its cases, and the compiler takes the choice out.
+#[derive(Clone, Copy, PartialEq, Eq, Debug)]
 pub enum Direction {
     Initialization,
     Liveness,

@@ -3,11 +3,10 @@ use Rattle.edges.specs.Chains.{ChainedSince}
 use Rattle.edges.specs.Edges.{Holds}
 use Rattle.edges.specs.Predecessors.{chain_cells}
 use Rattle.memory.specs.Frame.{Only, NoRow}
-use Rattle.memory.specs.Scratch.{scratch}
 use Rattle.edges.proofs.predecessors.predecessors.Given as goal
 
 abbrev pub invariant-loop-block : goal.invariant-loop-block
-invariant-loop-block l = record {
-  only : Only chain_cells NoRow (scratch l.y l.initial.s) (scratch l.y l.s);
-  chained : (next : ℕ → List ℕ) → Holds next l.y (scratch l.y l.initial.s) → ChainedSince next l.y l.block l.low (scratch l.y l.s);
+invariant-loop-block g l = record {
+  only : Only chain_cells NoRow l.initial.s l.s;
+  chained : (next : ℕ → List ℕ) → Holds next g.R.Run.layout l.initial.s → ChainedSince next g.R.Run.layout l.block l.low l.s;
 }

@@ -1,34 +1,32 @@
 -- `solver::drain::drain` meets its contract: the run from here is the run from the start, and each visit has its work. Assumes nothing.
-use Rattle.std.proofs.Common.{sym, arith}
+use Rattle.std.proofs.Common.{arith}
 use Rattle.std.proofs.lemmas.Result.{err_from_is_err_and}
-use Rattle.memory.specs.Scratch.{scratch}
-use Rattle.memory.specs.Sets.{sets}
 use Rattle.solver.specs.Run.{at_of}
 use Rattle.solver.proofs.RunLaws.{ran_idle, ran_over, ran_more}
 use Rattle.solver.proofs.drain.drain.Goals as goal
 
 pub returns-in_err-waiting : goal.returns-in_err-waiting
-returns-in_err-waiting c =
+returns-in_err-waiting g c =
     let l = c.loop-waiting in
     let a = c.args in
-    let y = c.args.y in
+    let y = g.R.Run.layout in
     let p = err_from_is_err_and c.from_residual.result c.from_residual.ensures.1 in
-    let s₀ = at_of (scratch y a.s.now) (sets y a.t.now) a.from in
-    let s = at_of (scratch y l.s) (sets y l.t) l.waiting in
-    rw (p.1, p.2) (ran_over a.d y a.limits s₀ a.budget s l.left l.invariant c.loop-waiting-test.true (sym c.in_err-waiting.ensures.0), tt)
+    let s₀ = at_of a.s.now a.t.now a.from in
+    let s = at_of l.s l.t l.waiting in
+    rw (p.1, p.2) (ran_over a.d y g.R.Run.limits s₀ a.meter s l.left l.invariant c.loop-waiting-test.true c.in_err-waiting.ensures.0, tt)
 
 pub loop-waiting-preserved : goal.loop-waiting-preserved
-loop-waiting-preserved c =
+loop-waiting-preserved g c =
     let l = c.loop-waiting in
     let a = c.args in
-    let y = c.args.y in
-    ran_more a.d y a.limits _ _ (at_of (scratch y l.s) (sets y l.t) l.waiting) l.left l.invariant _ _ c.loop-waiting-test.true
-    (sym c.in_ok-waiting.ensures.0) c.in_ok-waiting.ensures.1
+    let y = g.R.Run.layout in
+    ran_more a.d y g.R.Run.limits _ _ (at_of l.s l.t l.waiting) l.left l.invariant _ _ c.loop-waiting-test.true
+    c.in_ok-waiting.ensures.0 c.in_ok-waiting.ensures.1
 
 pub returns : goal.returns
-returns c =
+returns g c =
     let l = c.loop-waiting in
     let a = c.args in
-    let y = c.args.y in
+    let y = g.R.Run.layout in
     let none = c.loop-waiting-test.false in
-    (ran_idle a.d y a.limits _ _ (at_of (scratch y l.s) (sets y l.t) l.waiting) l.left l.invariant none, omega (arith, none))
+    (ran_idle a.d y g.R.Run.limits _ _ (at_of l.s l.t l.waiting) l.left l.invariant none, omega (arith, none))
