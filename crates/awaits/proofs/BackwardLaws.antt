@@ -21,9 +21,9 @@ use Rattle.script.specs.Script.{flow_code, host_in}
 use Rattle.std.specs.Prelude.{Ok, Err}
 use Rattle.answer.specs.Words.{Means}
 use Rattle.verdict.specs.Points.{Checking, on, and_then, Point, point_run, awaits_run, await_points}
-use Rattle.reads.specs.Reads.{Checked, checking_of, Coded, awaits_among}
+use Rattle.reads.specs.Reads.{Counting, checking_of, Coded, awaits_among}
 use Rattle.awaits.specs.Awaits.{Entry, Entries, InstructionChecked, AwaitsChecked}
-use Rattle.reads.proofs.ReadLaws.{refused-not_passed, same_count, coded_kept}
+use Rattle.reads.proofs.ReadLaws.{refused-not_passed, coded_kept}
 use Rattle.awaits.proofs.ChargeLaws.{stop-stays}
 
 -- ---- awaits counted from the back
@@ -120,11 +120,11 @@ entries-kept y t t' first (p ∷ ps) h a = (
 
 -- an await's facts are put before them
 entries-more : (y : Layout) (t t' : Mem) (n next pc : ℕ) (row : List ℕ) (live : ℕ → Bool) (ps : List Point) (v : Bool)
-    → await_entry y.blocks next ≤ length t → n + pick v 1 0 ≡ next → t' ≡ pick v (store_cell t (await_entry y.blocks n) (pc ∷ row)) t
+    → (v ≡ true → await_entry y.blocks n < length t) → n + pick v 1 0 ≡ next → t' ≡ pick v (store_cell t (await_entry y.blocks n) (pc ∷ row)) t
     → Means y.words row live → Entries y t next ps → Entries y t' n (pick v (record { instruction = pc; live = live } ∷ ps) ps)
 entries-more y t t' n next pc row live ps true h e f m a =
     let q : next ≡ n + 1 = omega arith in (
-      (row, ap (λ (w : Mem). cell w (await_entry y.blocks n)) f ∙ cell-store_same t (await_entry y.blocks n) (pc ∷ row) (omega arith), m),
+      (row, ap (λ (w : Mem). cell w (await_entry y.blocks n)) f ∙ cell-store_same t (await_entry y.blocks n) (pc ∷ row) (h refl), m),
       entries-kept y t t' (n + 1) ps
           (λ k g l. ap (λ (w : Mem). cell w k) f ∙ cell-store_other t (await_entry y.blocks n) (pc ∷ row) k (λ w. omega arith))
           (subst (λ (k : ℕ). Entries y t k ps) q a),
@@ -157,34 +157,8 @@ awaiting_coded {y = y} ok a =
     coded_kept ok (a.others offset_cell (λ q. omega arith)) (a.others cost_cell (λ q. omega arith)) (a.others (hosts_row y.blocks) (λ q. omega arith))
 
 module _ {s : List ℕ} {x : Script} {y : Layout} {l : Limits} {budget : FlowBudget} {end place : ℕ} {m t : Mem} where
-  -- before the last of them
-  pub awaiting_none : Awaiting s x y l budget budget end end place place m m t t
-  unfolding awaits_run await_points
-  awaiting_none =
-      let e : end - end ≡ 0 = omega arith in
-      record {
-        run = λ parameter g h. rw e refl;
-        row = λ parameter g h. rw e h;
-        places = rw e (omega arith);
-        entries = λ parameter g h. rw e tt;
-        others = λ k h. refl;
-        other_sets = λ k h. refl;
-      }
-
   module _ {left : FlowBudget} {pc next : ℕ} {m₁ t₁ : Mem} (a : Awaiting s x y l budget left end pc place next m m₁ t t₁) where
-    -- all of them
-    pub awaits_passed : {start : ℕ} → pc ≡ start → AwaitsChecked s x y l budget start end place m m₁ t t₁ (Ok (next, left))
-    awaits_passed {start} q =
-        let b = subst (λ (k : ℕ). Awaiting s x y l budget left end k place next m m₁ t t₁) q a in
-        record {
-          answer = λ parameter g h. sym (b.run parameter g h);
-          places = λ n z e. omega (arith, same_count e, b.places);
-          entries = λ n z e parameter g h. subst (λ (k : ℕ). Entries y t₁ k (points_from s parameter end g start)) (same_count e) (b.entries parameter g h);
-          others = b.others;
-          other_sets = λ n z e k h. b.other_sets k (omega (arith, same_count e));
-        }
-
-    module _ {pc₁ : ℕ} (q : pc ≡ suc pc₁) (high : pc ≤ end) {m₂ t₂ : Mem} {r : Checked}
+    module _ {pc₁ : ℕ} (q : pc ≡ suc pc₁) (high : pc ≤ end) {m₂ t₂ : Mem} {r : Counting}
         (c : InstructionChecked s x y l left pc₁ next m₁ m₂ t₁ t₂ r) where
       behind : Awaiting s x y l budget left end (suc pc₁) place next m m₁ t t₁
       behind = subst (λ (k : ℕ). Awaiting s x y l budget left end k place next m m₁ t t₁) q a
@@ -208,14 +182,14 @@ module _ {s : List ℕ} {x : Script} {y : Layout} {l : Limits} {budget : FlowBud
       }
 
       -- one instruction more
-      pub awaiting_more : {n : ℕ} {paid : FlowBudget} → r ≡ Ok (n, paid) → await_entry y.blocks next ≤ length t₁
+      pub awaiting_more : {n : ℕ} {paid : FlowBudget} → r ≡ Ok (n, paid)
           → Awaiting s x y l budget paid end pc₁ place n m m₂ t t₂
-      awaiting_more {n} {paid} e room = record {
+      awaiting_more {n} {paid} e = record {
         run = λ parameter g h. run_more parameter g h ∙ ap checking_of e;
         row = λ parameter g h i o. c.row n paid e parameter (live_from s parameter end g (suc pc₁)) (behind.row parameter g h) i o ∙ sym (live-first s parameter end g pc₁ (omega arith) i);
         places = omega (arith, c.places n paid e, behind.places, awaits-first (flow_code (parts_of s)) pc₁ end (omega arith));
         entries = λ parameter g h. subst (Entries y t₂ n) (sym (points-first s parameter end g pc₁ (omega arith)))
-            (entries-more y t₁ t₂ n next pc₁ (cell m₂ (live_state_row y.blocks)) _ _ (await_at (flow_code (parts_of s)) pc₁) room (c.places n paid e)
+            (entries-more y t₁ t₂ n next pc₁ (cell m₂ (live_state_row y.blocks)) _ _ (await_at (flow_code (parts_of s)) pc₁) (c.room n paid e) (c.places n paid e)
             (c.entry n paid e) (c.row n paid e parameter (live_from s parameter end g (suc pc₁)) (behind.row parameter g h)) (behind.entries parameter g h));
         others = λ k h. c.others k h ∙ a.others k h;
         other_sets = λ k h. before-stays t₁ t₂ (await_entry y.blocks n) _ (await_at (flow_code (parts_of s)) pc₁) (c.entry n paid e) k h

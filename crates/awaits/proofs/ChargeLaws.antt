@@ -20,7 +20,7 @@ use Rattle.format.specs.declared.refusal.Refusal.{Refusal}
 use Rattle.format.specs.declared.refusal.Refusal.TheVariants.{WorkLimit}
 use Rattle.memory.specs.Cells.{Mem, word}
 use Rattle.memory.specs.Names.{cost_cell}
-use Rattle.reads.proofs.ReadLaws.{refused-not_passed, same_count}
+use Rattle.reads.proofs.ReadLaws.{refused-not_passed}
 use Rattle.verdict.specs.Points.{Checking, stop, on, and_then, if_paid, await_run, point_run, awaits_run}
 use Rattle.awaits.specs.Awaits.{back_run, ChargedBack}
 
@@ -49,23 +49,12 @@ module _ (cost : ℕ → ℕ) (l : Limits) (b : FlowBudget) (end : ℕ) where
   abbrev pub back_from : ℕ → Checking
   back_from k = back_run cost l (range k (end - k)) b
 
-  pub back_none : back_from end ≡ on b
-  unfolding back_run
-  back_none = let e : end - end ≡ 0 = omega arith in rw e refl
-
   back-first : (k : ℕ) → k < end → back_from k ≡ and_then (back_from (suc k)) (λ b'. if_paid (charged l b' (cost k ∷ [])) on)
   unfolding back_run
   back-first k h = let e : end - k ≡ suc (end - suc k) = omega arith in ap (λ (n : ℕ). back_run cost l (range k n) b) e
 
 module _ (m : Mem) (l : Limits) (b : FlowBudget) (start end place pc : ℕ) (left : FlowBudget)
     (a : back_from (word m cost_cell) l b end pc ≡ on left) where
-  -- all are charged
-  pub back_passed : pc ≡ start → ChargedBack l b start end place m (Ok (place, left))
-  back_passed q = record {
-    answer = sym a ∙ ap (back_from (word m cost_cell) l b end) q;
-    places = λ n z e. sym (same_count e);
-  }
-
   module _ (pc₁ : ℕ) (q : pc ≡ suc pc₁) (high : pc ≤ end) {cost : ℕ} (ec : cost ≡ word m cost_cell pc₁) where
     back-next : {c : Charged} → c ≡ charged l left (cost ∷ []) → back_from (word m cost_cell) l b end pc₁ ≡ if_paid c on
     back-next e =

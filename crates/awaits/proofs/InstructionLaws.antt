@@ -6,7 +6,7 @@ use Prim.Native.Nat.{ℕ, ◌+◌, ◌*◌, ◌≤◌, ◌<◌}
 use native.Mathlib.Omega.{arith}
 use borrow.Author.Tests.{ltb-true}
 use lib.Dec.{ltb}
-use lib.ListN.{length, get_or}
+use lib.ListN.{length, get_or, length-set}
 use Rattle.bitset.specs.Sets.{Words}
 use Rattle.bitset.specs.Operations.{common}
 use Rattle.bitset.proofs.SetLaws.{common_member, member_common}
@@ -25,6 +25,10 @@ use Rattle.format.specs.Types.{absent}
 use Rattle.format.specs.declared.refusal.Refusal.TheVariants.{WorkLimit, HostOverAwait}
 use Rattle.memory.specs.Cells.{Mem, cell, store_cell}
 use Rattle.memory.specs.Names.{live_state_row, hosts_row, await_entry}
+use Rattle.memory.specs.Scratch.{Whole, Row}
+use Rattle.memory.specs.declared.names.SlotRow.TheVariants.{LiveState}
+use Rattle.memory.proofs.ScratchLaws.{sized_among, sized_row}
+use Rattle.memory.proofs.NamedLaws.{row_there}
 use Rattle.sizes.specs.declared.Layout.{Layout}
 use Rattle.sizes.specs.Stages.{stopped}
 use Rattle.memory.proofs.CellLaws.{cell-store_same, cell-store_other}
@@ -36,7 +40,7 @@ use Rattle.instructions.specs.Sets.{inserted_all}
 use Rattle.script.specs.Script.{flow_code, host_in}
 use Rattle.answer.specs.Words.{Means}
 use Rattle.verdict.specs.Points.{Checking, stop, if_paid, if_kept, await_run, point_run}
-use Rattle.reads.specs.Reads.{Checked, Coded}
+use Rattle.reads.specs.Reads.{Counting, Coded}
 use Rattle.awaits.specs.Awaits.{await_rows, AwaitChecked, InstructionChecked}
 use Rattle.awaits.specs.Awaits.{removed_all}
 use Rattle.reads.proofs.ReadLaws.{refused-not_passed}
@@ -102,25 +106,30 @@ module _ (s : List ℕ) (x : Script) (y : Layout) (l : Limits) (b : FlowBudget) 
     row = λ n left v. absurd (refused-not_passed v);
     places = λ n left v. absurd (refused-not_passed v);
     entry = λ n left v. absurd (refused-not_passed v);
+    room = λ n left v. absurd (refused-not_passed v);
     others = λ k h. refl;
   }
 
-  module _ {paid : FlowBudget} (e : Ok paid ≡ charged l b (cost ∷ [])) (k : ℕ) (ek : k ≡ live_state_row y.blocks) (lt : k < length m)
-      (wide : length (cell m k) ≡ y.words) (outs ins : List ℕ) (eo : (instruction_at (flow_code (parts_of s)) pc).outputs ≡ outs)
+  module _ {paid : FlowBudget} (e : Ok paid ≡ charged l b (cost ∷ [])) (z : Whole y m) (outs ins : List ℕ) (eo : (instruction_at (flow_code (parts_of s)) pc).outputs ≡ outs)
       (ei : (instruction_at (flow_code (parts_of s)) pc).inputs ≡ ins) (ob : AllBelow (64 * y.words) outs) (ib : AllBelow (64 * y.words) ins)
-      (m₁ m₂ : Mem) (e₁ : m₁ ≡ store_cell m k (removed_all outs (cell m k))) (lt₁ : k < length m₁)
-      (e₂ : m₂ ≡ store_cell m₁ k (inserted_all ins (cell m₁ k))) where
+      (m₁ m₂ : Mem) (e₁ : m₁ ≡ store_cell m (live_state_row y.blocks) (removed_all outs (cell m (live_state_row y.blocks))))
+      (e₂ : m₂ ≡ store_cell m₁ (live_state_row y.blocks) (inserted_all ins (cell m₁ (live_state_row y.blocks)))) where
+    there : Row y (live_state_row y.blocks)
+    there = row_there LiveState tt
+
     -- each other cell stays
     other-stays : (j : ℕ) → (j ≡ live_state_row y.blocks → ⊥) → cell m₂ j ≡ cell m j
     other-stays j h =
-        ap (λ (w : Mem). cell w j) e₂ ∙ cell-store_other m₁ k _ j (λ q. h (q ∙ ek)) ∙ ap (λ (w : Mem). cell w j) e₁
-        ∙ cell-store_other m k _ j (λ q. h (q ∙ ek))
+        ap (λ (w : Mem). cell w j) e₂ ∙ cell-store_other m₁ (live_state_row y.blocks) _ j h ∙ ap (λ (w : Mem). cell w j) e₁
+        ∙ cell-store_other m (live_state_row y.blocks) _ j h
 
     -- the live row loses the outputs and then takes in the inputs
     live_is : cell m₂ (live_state_row y.blocks) ≡ inserted_all ins (removed_all outs (cell m (live_state_row y.blocks)))
-    live_is = subst (λ (j : ℕ). cell m₂ j ≡ inserted_all ins (removed_all outs (cell m j))) ek
-        (ap (λ (w : Mem). cell w k) e₂ ∙ cell-store_same m₁ k _ lt₁
-        ∙ ap (inserted_all ins) (ap (λ (w : Mem). cell w k) e₁ ∙ cell-store_same m k _ lt))
+    live_is =
+        let lt : live_state_row y.blocks < length m = sized_among y z there.high in
+        let lt₁ : live_state_row y.blocks < length m₁ = rw (e₁, length-set) lt in
+        ap (λ (w : Mem). cell w (live_state_row y.blocks)) e₂ ∙ cell-store_same m₁ (live_state_row y.blocks) _ lt₁
+        ∙ ap (inserted_all ins) (ap (λ (w : Mem). cell w (live_state_row y.blocks)) e₁ ∙ cell-store_same m (live_state_row y.blocks) _ lt)
 
     -- so it stands for the set before the instruction
     live-before : (parameter g : ℕ → Bool) → Means y.words (cell m (live_state_row y.blocks)) g
@@ -128,20 +137,19 @@ module _ (s : List ℕ) (x : Script) (y : Layout) (l : Limits) (b : FlowBudget) 
     live-before parameter g h = subst
         (λ (ws : List ℕ). Means y.words ws (λ i. live_transfer (program (flow_code (parts_of s)) parameter) pc i (g i))) (sym live_is)
         (means-live (flow_code (parts_of s)) parameter pc y.words (cell m (live_state_row y.blocks)) g outs
-        (ap (λ (j : ℕ). length (cell m j)) (sym ek) ∙ wide) eo ob h ins ei ib)
+        (sized_row y z there) eo ob h ins ei ib)
 
     hosts-stay : 0 < y.awaits → Means y.words (cell m₂ (hosts_row y.blocks)) (host_in (parts_of s))
     hosts-stay some = subst (λ (ws : List ℕ). Means y.words ws (host_in (parts_of s)))
         (sym (other-stays (hosts_row y.blocks) (λ q. omega arith))) (ok.hosts some)
 
-    module _ (hw : Words y.words (cell m₂ (hosts_row y.blocks))) (lw : Words y.words (cell m₂ (live_state_row y.blocks)))
-        (kind : ℕ) (await : await_at (flow_code (parts_of s)) pc ≡ is_await kind) (some : is_await kind ≡ true → 0 < y.awaits) (t' : Mem) (r : Checked)
+    module _ (kind : ℕ) (await : await_at (flow_code (parts_of s)) pc ≡ is_await kind) (some : is_await kind ≡ true → 0 < y.awaits) (t' : Mem) (r : Counting)
         (d : AwaitChecked (is_await kind) y l x.slots paid pc place m₂ t t' r) where
       await-run : is_await kind ≡ true → (parameter g : ℕ → Bool) → Means y.words (cell m (live_state_row y.blocks)) g → await_rows y l x.slots m₂ paid
           ≡ await_run (flow_code (parts_of s)) parameter l y.words x.slots (host_in (parts_of s))
           (λ i. live_transfer (program (flow_code (parts_of s)) parameter) pc i (g i)) paid
       await-run q parameter g h = rows_run _ _ _ _ y l x.slots m₂ paid
-          (common-means y.words x.slots _ _ _ _ hw lw (hosts-stay (some q)) (live-before parameter g h) ok.slots
+          (common-means y.words x.slots _ _ _ _ (d.fit q).hosts (d.fit q).live (hosts-stay (some q)) (live-before parameter g h) ok.slots
           (λ i o. omega (arith, host-below (parts_of s) i o, ok.sound.slots_are)))
 
       -- the charge is met, the row is changed, and an await is checked
@@ -154,5 +162,6 @@ module _ (s : List ℕ) (x : Script) (y : Layout) (l : Limits) (b : FlowBudget) 
         places = λ n left q. ap (λ (v : Bool). n + pick v 1 0) await ∙ d.places n left q;
         entry = λ n left q. d.entry n left q
             ∙ ap (λ (v : Bool). pick v (store_cell t (await_entry y.blocks n) (pc ∷ cell m₂ (live_state_row y.blocks))) t) (sym await);
+        room = λ n left q v. d.room n left q (sym await ∙ v);
         others = other-stays;
       }

@@ -1,5 +1,6 @@
 -- The awaits of one block, over the words: what `check_points` of flow.rs does there from the back.
-use Rattle.std.specs.Prelude.{◌≡◌, Bool, List, [], ◌∷◌, ℕ, ◌+◌, ◌-◌, ◌<◌, Ok}
+use Rattle.std.specs.Prelude.{◌≡◌, Bool, true, List, [], ◌∷◌, ℕ, ◌+◌, ◌-◌, ◌<◌, length, Ok}
+use Rattle.bitset.specs.Sets.{Words}
 use Rattle.bitset.specs.Operations.{common, removed}
 use Rattle.dataflow.specs.Lists.{pick, range}
 use Rattle.dataflow.specs.Analyses.{live_transfer}
@@ -16,7 +17,7 @@ use Rattle.sheet.specs.Decode.{parts_of}
 use Rattle.script.specs.Script.{flow_code, host_in}
 use Rattle.answer.specs.Words.{Means}
 use Rattle.verdict.specs.Points.{Checking, stop, on, and_then, if_paid, if_kept, Point, point_run, awaits_run, await_points}
-use Rattle.reads.specs.Reads.{Checked, checking_of, awaits_among}
+use Rattle.reads.specs.Reads.{Counting, checking_of, awaits_among}
 
 -- a set with these slots taken out
 unfoldable pub removed_all : List ℕ → List ℕ → List ℕ
@@ -28,15 +29,22 @@ unfoldable pub await_rows : Layout → Limits → ℕ → Mem → FlowBudget →
 await_rows y l slots m b = if_paid (charged l b (slots ∷ [])) (λ b'. pick (common (cell m (hosts_row y.blocks)) (cell m (live_state_row y.blocks)))
     (stop HostOverAwait b') (if_kept (retained l b' (facts_bytes y.words))))
 
+-- the words of the host slots and of the running live set are those of slices
+pub record RowsFit (y : Layout) (m : Mem) : Type 0 where
+  pub hosts : Words y.words (cell m (hosts_row y.blocks))
+  pub live : Words y.words (cell m (live_state_row y.blocks))
+
 -- what `check_point` does: nothing if there is no await; else its facts are put before entry `place`
-pub record AwaitChecked (await : Bool) (y : Layout) (l : Limits) (slots : ℕ) (b : FlowBudget) (pc place : ℕ) (m t t' : Mem) (r : Checked) : Type 0 where
+pub record AwaitChecked (await : Bool) (y : Layout) (l : Limits) (slots : ℕ) (b : FlowBudget) (pc place : ℕ) (m t t' : Mem) (r : Counting) : Type 0 where
   pub answer : checking_of r ≡ pick await (await_rows y l slots m b) (on b)
   pub places : (n : ℕ) (left : FlowBudget) → r ≡ Ok (n, left) → n + pick await 1 0 ≡ place
   pub entry : (n : ℕ) (left : FlowBudget) → r ≡ Ok (n, left)
       → t' ≡ pick await (store_cell t (await_entry y.blocks n) (pc ∷ cell m (live_state_row y.blocks))) t
+  pub room : (n : ℕ) (left : FlowBudget) → r ≡ Ok (n, left) → await ≡ true → await_entry y.blocks n < length t
+  pub fit : await ≡ true → RowsFit y m
 
 -- what `check_instruction` does at pc, whichever slots are parameters: its cost is charged, the live row becomes the one before it, and an await there is checked
-pub record InstructionChecked (s : List ℕ) (x : Script) (y : Layout) (l : Limits) (b : FlowBudget) (pc place : ℕ) (m m' t t' : Mem) (r : Checked) : Type 0 where
+pub record InstructionChecked (s : List ℕ) (x : Script) (y : Layout) (l : Limits) (b : FlowBudget) (pc place : ℕ) (m m' t t' : Mem) (r : Counting) : Type 0 where
   pub answer : (parameter g : ℕ → Bool) → Means y.words (cell m (live_state_row y.blocks)) g
       → checking_of r ≡ point_run (flow_code (parts_of s)) parameter l y.words x.slots (host_in (parts_of s)) pc
       (λ i. live_transfer (program (flow_code (parts_of s)) parameter) pc i (g i)) b
@@ -45,6 +53,7 @@ pub record InstructionChecked (s : List ℕ) (x : Script) (y : Layout) (l : Limi
   pub places : (n : ℕ) (left : FlowBudget) → r ≡ Ok (n, left) → n + pick (await_at (flow_code (parts_of s)) pc) 1 0 ≡ place
   pub entry : (n : ℕ) (left : FlowBudget) → r ≡ Ok (n, left)
       → t' ≡ pick (await_at (flow_code (parts_of s)) pc) (store_cell t (await_entry y.blocks n) (pc ∷ cell m' (live_state_row y.blocks))) t
+  pub room : (n : ℕ) (left : FlowBudget) → r ≡ Ok (n, left) → await_at (flow_code (parts_of s)) pc ≡ true → await_entry y.blocks n < length t
   pub others : (k : ℕ) → (k ≡ live_state_row y.blocks → ⊥) → cell m' k ≡ cell m k
 
 -- an entry of the sets buffer holds an await's facts: its instruction, then its set
@@ -57,7 +66,7 @@ Entries y t first [] = Unit {0}
 Entries y t first (p ∷ ps) = Entry y.words (cell t (await_entry y.blocks first)) p × Entries y t (first + 1) ps
 
 -- what `check_awaits` does with the instructions from start to end, whichever slots are parameters: its awaits' facts stand before entry `place`
-pub record AwaitsChecked (s : List ℕ) (x : Script) (y : Layout) (l : Limits) (b : FlowBudget) (start end place : ℕ) (m m' t t' : Mem) (r : Checked) : Type 0 where
+pub record AwaitsChecked (s : List ℕ) (x : Script) (y : Layout) (l : Limits) (b : FlowBudget) (start end place : ℕ) (m m' t t' : Mem) (r : Counting) : Type 0 where
   pub answer : (parameter g : ℕ → Bool) → Means y.words (cell m (live_state_row y.blocks)) g
       → checking_of r ≡ awaits_run (flow_code (parts_of s)) parameter l y.words x.slots (host_in (parts_of s)) g (range start (end - start)) b
   pub places : (n : ℕ) (left : FlowBudget) → r ≡ Ok (n, left) → n + awaits_among (flow_code (parts_of s)) start end ≡ place
@@ -72,6 +81,6 @@ back_run cost l [] b = on b
 back_run cost l (i ∷ is) b = and_then (back_run cost l is b) (λ b'. if_paid (charged l b' (cost i ∷ [])) on)
 
 -- what `charge_back` does with the instructions from start to end: their costs are charged, and the place is the same
-pub record ChargedBack (l : Limits) (b : FlowBudget) (start end place : ℕ) (m : Mem) (r : Checked) : Type 0 where
+pub record ChargedBack (l : Limits) (b : FlowBudget) (start end place : ℕ) (m : Mem) (r : Counting) : Type 0 where
   pub answer : checking_of r ≡ back_run (word m cost_cell) l (range start (end - start)) b
   pub places : (n : ℕ) (left : FlowBudget) → r ≡ Ok (n, left) → n ≡ place

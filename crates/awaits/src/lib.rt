@@ -3,148 +3,133 @@
 
 pub mod slots;
 
-ghost use Rattle.std.specs.Prelude.{◌≡◌, true, ◌+◌, ◌≤◌, ◌<◌, length};
+ghost use Rattle.std.specs.Prelude.{◌≡◌, true, ◌+◌, ◌≤◌, ◌<◌};
 ghost use Rattle.operands.specs.Kinds.{kind_number, is_await};
-ghost use Rattle.memory.specs.Scratch.{scratch, Room};
-ghost use Rattle.memory.specs.Sets.{sets, SetsRoom};
 ghost use Rattle.dataflow.specs.Code.{await_at};
 ghost use Rattle.sheet.specs.Decode.{parts_of};
 ghost use Rattle.script.specs.Script.{flow_code};
 ghost use Rattle.reads.specs.Reads.{Coded, awaits_among};
 ghost use Rattle.awaits.specs.Awaits.{AwaitChecked, InstructionChecked, AwaitsChecked, ChargedBack};
 
-use budget::{FlowBudget, Limits};
 use format::refusal::Refusal;
+use instructions::checked::Sheet;
 use instructions::placed;
-use memory::layout;
+use memory::names::{Cell, SlotRow};
+use memory::scratch::Scratch;
+use memory::sets::Sets;
 use operands::kind::Kind;
-use sheet::script::Script;
-use sizes::{Layout, Stopped};
+use run::Run;
+use run::meter::Meter;
+use sizes::Stopped;
 
 // The awaits among the instructions from start to end, from the back; their facts are put before entry `place`.
 // Like each check here, it answers with the entry that the next await before them is put before.
-pub fn check_awaits(
-    sheet: &[u8],
-    s: &mut [u64],
-    t: &mut [u64],
-    script: Script,
-    y: Layout,
+#[tactic(auto, unfolding(verdict::specs::Points::awaits_run, verdict::specs::Points::await_points))]
+pub fn check_awaits<R: Run>(
+    sheet: &Sheet<'_>,
+    s: &mut Scratch<'_, R>,
+    t: &mut Sets<'_, R>,
     start: usize,
     end: usize,
     place: usize,
-    limits: Limits,
-    budget: FlowBudget,
-) -> Result<(usize, FlowBudget), Stopped>
-    requires { Room y (length s.old) × SetsRoom y (length t.old) × (Coded sheet.now script y (scratch y s.old)) × (start ≤ end) × (end ≤ y.instructions)
-        × (awaits_among (flow_code (parts_of sheet.now)) start end ≤ place) × (place ≤ y.awaits) }
-    ensures { AwaitsChecked sheet.now script y limits budget start end place (scratch y s.old) (scratch y s.new) (sets y t.old) (sets y t.new) result }
+    meter: Meter<R>,
+) -> Result<(usize, Meter<R>), Stopped>
+    requires { (Coded sheet.now.bytes.now sheet.now.script R.layout s.old) × (start ≤ end) × (end ≤ R.layout.instructions)
+        × (awaits_among (flow_code (parts_of sheet.now.bytes.now)) start end ≤ place) × (place ≤ R.layout.awaits) }
+    ensures { AwaitsChecked sheet.now.bytes.now sheet.now.script R.layout R.limits meter start end place s.old s.new t.old t.new result }
 {
-    let mut left = budget;
+    let mut left = meter;
     let mut next = place;
     for pc in (start..end).rev() {
-        let (n, paid) = check_instruction(sheet, s, t, script, y, pc, next, limits, left)?;
+        let (n, paid) = check_instruction(sheet, s, t, pc, next, left)?;
         next = n;
         left = paid;
     }
     Ok((next, left))
 }
 
-// The costs from start to end, from the back: all that is charged where there is no await.
-pub fn charge_back(
-    s: &[u64],
-    y: Layout,
+// The costs from start to end, from the back: all that is charged where there is no await. Most blocks take this loop, so it reads no instruction.
+#[tactic(auto, unfolding(crate::specs::Awaits::back_run))]
+pub fn charge_back<R: Run>(
+    s: &Scratch<'_, R>,
     start: usize,
     end: usize,
     place: usize,
-    limits: Limits,
-    budget: FlowBudget,
-) -> Result<(usize, FlowBudget), Stopped>
-    requires { Room y (length s.now) × (start ≤ end) × (end ≤ y.instructions) }
-    ensures { ChargedBack limits budget start end place (scratch y s.now) result }
+    meter: Meter<R>,
+) -> Result<(usize, Meter<R>), Stopped>
+    requires { (start ≤ end) × (end ≤ R.layout.instructions) }
+    ensures { ChargedBack R.limits meter start end place s.now result }
 {
-    let mut left = budget;
+    let mut left = meter;
     for pc in (start..end).rev() {
-        left = left.charge(memory::scratch::get(s, y, layout::COST, pc), limits)?;
+        left = left.charge(s.get(Cell::Cost, pc))?;
     }
     Ok((place, left))
 }
 
 // One instruction: its cost is charged, the live row becomes the one before it, and an await is checked there.
-fn check_instruction(
-    sheet: &[u8],
-    s: &mut [u64],
-    t: &mut [u64],
-    script: Script,
-    y: Layout,
+fn check_instruction<R: Run>(
+    sheet: &Sheet<'_>,
+    s: &mut Scratch<'_, R>,
+    t: &mut Sets<'_, R>,
     pc: usize,
     place: usize,
-    limits: Limits,
-    budget: FlowBudget,
-) -> Result<(usize, FlowBudget), Stopped>
-    requires { Room y (length s.old) × SetsRoom y (length t.old) × (Coded sheet.now script y (scratch y s.old)) × (pc < y.instructions)
-        × (await_at (flow_code (parts_of sheet.now)) pc ≡ true → 0 < place) × (place ≤ y.awaits) }
-    ensures { InstructionChecked sheet.now script y limits budget pc place (scratch y s.old) (scratch y s.new) (sets y t.old) (sets y t.new) result }
+    meter: Meter<R>,
+) -> Result<(usize, Meter<R>), Stopped>
+    requires { (Coded sheet.now.bytes.now sheet.now.script R.layout s.old) × (pc < R.layout.instructions)
+        × (await_at (flow_code (parts_of sheet.now.bytes.now)) pc ≡ true → 0 < place) × (place ≤ R.layout.awaits) }
+    ensures { InstructionChecked sheet.now.bytes.now sheet.now.script R.layout R.limits meter pc place s.old s.new t.old t.new result }
 {
-    let live = layout::live_state(y);
-    let cost = memory::scratch::get(s, y, layout::COST, pc);
-    let left = budget.charge(cost, limits)?;
-    let at = memory::scratch::get(s, y, layout::OFFSET, pc) as usize;
-    let instruction = placed::instruction_at(sheet, at).instruction();
-    slots::remove_output(s, y, live, instruction);
-    slots::insert_inputs(s, y, live, instruction.inputs());
-    check_point(s, t, script, y, instruction.kind, pc, place, limits, left)
+    let cost = s.get(Cell::Cost, pc);
+    let left = meter.charge(cost)?;
+    let at = s.get(Cell::Offset, pc) as usize;
+    let instruction = placed::instruction_at(sheet.bytes, at).instruction();
+    slots::remove_output(s, instruction);
+    slots::insert_inputs(s, instruction.inputs());
+    check_point(s, t, sheet.script.slots, instruction.kind, pc, place, left)
 }
 
 // An instruction that is no await passes.
-pub fn check_point(
-    s: &[u64],
-    t: &mut [u64],
-    script: Script,
-    y: Layout,
+pub fn check_point<R: Run>(
+    s: &Scratch<'_, R>,
+    t: &mut Sets<'_, R>,
+    slots: usize,
     kind: Kind,
     pc: usize,
     place: usize,
-    limits: Limits,
-    budget: FlowBudget,
-) -> Result<(usize, FlowBudget), Stopped>
-    requires { Room y (length s.now) × SetsRoom y (length t.old) × (is_await (kind_number kind) ≡ true → 0 < place) × (place ≤ y.awaits) × (y.words ≤ 1024) }
-    ensures { AwaitChecked (is_await (kind_number kind)) y limits script.slots budget pc place (scratch y s.now) (sets y t.old) (sets y t.new) result }
+    meter: Meter<R>,
+) -> Result<(usize, Meter<R>), Stopped>
+    requires { (is_await (kind_number kind) ≡ true → 0 < place) × (place ≤ R.layout.awaits) }
+    ensures { AwaitChecked (is_await (kind_number kind)) R.layout R.limits slots meter pc place s.now t.old t.new result }
 {
     if kind.is_await() {
-        return check_await(s, t, script.slots, y, pc, place - 1, limits, budget);
+        return check_await(s, t, slots, pc, place - 1, meter);
     }
-    Ok((place, budget))
+    Ok((place, meter))
 }
 
 // An await: the slot count is charged, then 14, then its facts are retained, 15, and put.
-fn check_await(
-    s: &[u64],
-    t: &mut [u64],
+fn check_await<R: Run>(
+    s: &Scratch<'_, R>,
+    t: &mut Sets<'_, R>,
     slots: usize,
-    y: Layout,
     pc: usize,
     place: usize,
-    limits: Limits,
-    budget: FlowBudget,
-) -> Result<(usize, FlowBudget), Stopped>
-    requires { Room y (length s.now) × SetsRoom y (length t.old) × (place < y.awaits) }
-    ensures { AwaitChecked true y limits slots budget pc (place + 1) (scratch y s.now) (sets y t.old) (sets y t.new) result }
+    meter: Meter<R>,
+) -> Result<(usize, Meter<R>), Stopped>
+    requires { place < R.layout.awaits }
+    ensures { AwaitChecked true R.layout R.limits slots meter pc (place + 1) s.now t.old t.new result }
 {
-    let paid = budget.charge(slots as u64, limits)?;
-    if rows::common(s, y, layout::hosts(y), layout::live_state(y)) {
+    let hosts = s.row(SlotRow::Hosts);
+    let live = s.row(SlotRow::LiveState);
+    let paid = meter.charge(slots as u64)?;
+    if bitset::common(hosts, live) {
         return Err(Stopped {
             why: Refusal::HostOverAwait,
-            budget: paid,
+            budget: paid.budget(),
         });
     }
-    let kept = paid.retain(budget::facts_bytes(y.words), limits)?;
-    rows::put_await(
-        t,
-        y,
-        layout::await_entry(y, place),
-        pc as u64,
-        s,
-        layout::live_state(y),
-    );
+    let kept = paid.retain(budget::facts_bytes(t.layout().words))?;
+    t.put_await(place, pc as u64, s, SlotRow::LiveState);
     Ok((place, kept))
 }

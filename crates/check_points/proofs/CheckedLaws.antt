@@ -12,10 +12,10 @@ use Rattle.dataflow.specs.Code.{program, body, await_at}
 use Rattle.dataflow.specs.Results.{reachable, init_entry, live_exit}
 use Rattle.budget.specs.declared.FlowBudget.{FlowBudget}
 use Rattle.budget.specs.declared.Limits.{Limits}
-use Rattle.memory.specs.Cells.{Mem, cell, word, store_cell}
+use Rattle.memory.specs.Cells.{Mem, cell, word, store_cell, InWords}
 use Rattle.memory.specs.Names.{cost_cell, start_cell, end_cell, reachable_cell, state_row, live_state_row}
-use Rattle.memory.specs.Scratch.{scratch, Room}
-use Rattle.memory.specs.Sets.{sets, SetsRoom}
+use Rattle.memory.specs.Scratch.{Whole}
+use Rattle.memory.specs.Sets.{SetsWhole}
 use Rattle.sizes.specs.declared.Layout.{Layout}
 use Rattle.sizes.specs.declared.Stopped.{Stopped}
 use Rattle.sheet.specs.declared.script.Script.{Script}
@@ -26,7 +26,7 @@ use Rattle.transfer.specs.declared.direction.Direction.TheVariants.{Initializati
 use Rattle.transfer.specs.Transfer.{running_row, gathered}
 use Rattle.answer.specs.Words.{Means}
 use Rattle.verdict.specs.Points.{Checking, on, and_then, Point, reads_run, awaits_run, block_run, await_points}
-use Rattle.reads.specs.Reads.{Checked, checking_of, held_set, Coded, awaits_among, Used, ReadsChecked}
+use Rattle.reads.specs.Reads.{Counting, checking_of, held_set, Coded, awaits_among, Used, ReadsChecked}
 use Rattle.reads.proofs.ReadLaws.{same_count, refused-not_passed}
 use Rattle.awaits.specs.Awaits.{Entries, AwaitsChecked, ChargedBack}
 use Rattle.awaits.proofs.ChargeLaws.{none_run}
@@ -107,11 +107,11 @@ pub record Entered (s : List ℕ) (parameter : ℕ → Bool) (x : Script) (y : L
   pub others : RunningOnly y m₀ m
 
 -- the first gathering, and the words START and END
-pub entered : {s : List ℕ} {parameter : ℕ → Bool} {x : Script} {y : Layout} {c place : ℕ} (w u : List ℕ) → Room y (length w) → ((i : ℕ) → get_or w i 0 < 2 ^ 64)
-    → SetsRoom y (length u) → ((i : ℕ) → get_or u i 0 < 2 ^ 64) → Facing s parameter x y c place (scratch y w) (sets y u) → reachable (code_of s) c ≡ true
-    → {m : Mem} → m ≡ store_cell (scratch y w) (running_row Initialization y) (gathered Initialization y (scratch y w) (sets y u) c)
-    → {start end : ℕ} → start ≡ word m start_cell c → end ≡ word m end_cell c → Entered s parameter x y c place start end (scratch y w) m (sets y u)
-entered {s} {parameter} {x} {y} {c} {place} w u room fits more fit h e {m} g {start} {end} p q = record {
+pub entered : {s : List ℕ} {parameter : ℕ → Bool} {x : Script} {y : Layout} {c place : ℕ} {m₀ t : Mem} → Whole y m₀ → InWords m₀ → SetsWhole y t → InWords t
+    → Facing s parameter x y c place m₀ t → reachable (code_of s) c ≡ true
+    → {m : Mem} → m ≡ store_cell m₀ (running_row Initialization y) (gathered Initialization y m₀ t c)
+    → {start end : ℕ} → start ≡ word m start_cell c → end ≡ word m end_cell c → Entered s parameter x y c place start end m₀ m t
+entered {s} {parameter} {x} {y} {c} {place} {m₀} {t} z fits zt fit h e {m} g {start} {end} p q = record {
   solved = kept;
   inside = h.inside;
   room = h.room;
@@ -119,14 +119,14 @@ entered {s} {parameter} {x} {y} {c} {place} w u room fits more fit h e {m} g {st
   span = spans kept c h.inside p q;
   start_is = p;
   end_is = q;
-  means = incoming_means w u room fits more fit h.solved c h.inside g;
+  means = incoming_means z fits zt fit h.solved c h.inside g;
   others = only;
 }
   where
-    only : RunningOnly y (scratch y w) m
-    only = gather-others Initialization (gathered Initialization y (scratch y w) (sets y u) c) g
+    only : RunningOnly y m₀ m
+    only = gather-others Initialization (gathered Initialization y m₀ t c) g
 
-    kept : Solved s parameter x y m (sets y u)
+    kept : Solved s parameter x y m t
     kept = solved_kept only h.solved
 
 -- the row of its uses holds what its instructions use
@@ -144,7 +144,7 @@ entered-held {s} {y = y} {c = c} {start = start} {end = end} {m = m} h =
     subst (λ (p : ℕ → Bool). Used (code_of s) p c start end m) (sym (held_kept h.others)) (entered-used h)
 
 -- the reads with the parameters as their row held them before
-pub reads_held : {s : List ℕ} {x : Script} {y : Layout} {l : Limits} {b : FlowBudget} {c place start end : ℕ} {m₀ m m₁ t : Mem} {r : Checked}
+pub reads_held : {s : List ℕ} {x : Script} {y : Layout} {l : Limits} {b : FlowBudget} {c place start end : ℕ} {m₀ m m₁ t : Mem} {r : Counting}
     → Entered s (held_set y m₀) x y c place start end m₀ m t → ReadsChecked (code_of s) (held_set y m) y l b start end m m₁ r
     → ReadsChecked (code_of s) (held_set y m₀) y l b start end m m₁ r
 reads_held {s} {y = y} {l = l} {b = b} {start = start} {end = end} {m = m} {m₁ = m₁} {r = r} h p =
@@ -166,7 +166,7 @@ facts-among {s} parameter {y} {c} e h =
     ∙ points_length (code_of s) parameter (exit_set s parameter y.words c) (body (code_of s) c)
     ∙ ap (λ (is : List ℕ). length (keep (await_at (code_of s)) is)) h.is
 
-module _ {s : List ℕ} {parameter : ℕ → Bool} {x : Script} {y : Layout} {l : Limits} {b : FlowBudget} {c place start end : ℕ} {m₀ m m₁ t : Mem} {r : Checked}
+module _ {s : List ℕ} {parameter : ℕ → Bool} {x : Script} {y : Layout} {l : Limits} {b : FlowBudget} {c place start end : ℕ} {m₀ m m₁ t : Mem} {r : Counting}
     (h : Entered s parameter x y c place start end m₀ m t)
     (p : ReadsChecked (code_of s) parameter y l b start end m m₁ r) where
   -- the reads' answer is that of the run
@@ -203,7 +203,7 @@ module _ {s : List ℕ} {parameter : ℕ → Bool} {x : Script} {y : Layout} {l 
   }
 
   -- the reads are filled, and then its awaits are checked
-  pub reads_then : {found : ℕ} {left : FlowBudget} → r ≡ Ok (found, left) → {m' t' : Mem} {q : Checked}
+  pub reads_then : {found : ℕ} {left : FlowBudget} → r ≡ Ok (found, left) → {m' t' : Mem} {q : Counting}
       → FoundChecked s parameter x y l left c place found m₁ m' t t' q → BlockChecked s parameter x y l b c place m₀ m' t t' q
   reads_then {found} {left} e {m'} {t'} {q} f = record {
     answer = f.answer ∙ ap (λ (z : Checking). and_then z (block_awaits s parameter x y l c)) (sym (ap checking_of e) ∙ reads-answer)
@@ -216,7 +216,7 @@ module _ {s : List ℕ} {parameter : ℕ → Bool} {x : Script} {y : Layout} {l 
     others = (running-then {m' = m'} (running-then h.others (reads-others p)) (record { others = f.others })).others;
   }
 
-module _ {s : List ℕ} {x : Script} {y : Layout} {l : Limits} {b : FlowBudget} {c place start end : ℕ} {m₀ m m₁ t : Mem} {r : Checked}
+module _ {s : List ℕ} {x : Script} {y : Layout} {l : Limits} {b : FlowBudget} {c place start end : ℕ} {m₀ m m₁ t : Mem} {r : Counting}
     (h : Entered s (held_set y m₀) x y c place start end m₀ m t)
     (p : ReadsChecked (code_of s) (held_set y m₀) y l b start end m m₁ r) where
   -- the row of the parameters is as it was
@@ -229,7 +229,7 @@ module _ {s : List ℕ} {x : Script} {y : Layout} {l : Limits} {b : FlowBudget} 
       subst (λ (q : ℕ → Bool). Counted s q x y c start end place found m₁ t) (sym held_then) (reads_counted h p e)
 
   -- and they are, with those that it held before
-  pub found_held : {found : ℕ} {left : FlowBudget} {m' t' : Mem} {q : Checked} → FoundChecked s (held_set y m₁) x y l left c place found m₁ m' t t' q
+  pub found_held : {found : ℕ} {left : FlowBudget} {m' t' : Mem} {q : Counting} → FoundChecked s (held_set y m₁) x y l left c place found m₁ m' t t' q
       → FoundChecked s (held_set y m₀) x y l left c place found m₁ m' t t' q
   found_held {found} {left} {m'} {t'} {q} f =
       subst (λ (z : ℕ → Bool). FoundChecked s z x y l left c place found m₁ m' t t' q) held_then f
@@ -246,7 +246,7 @@ module _ {s : List ℕ} {parameter : ℕ → Bool} {x : Script} {y : Layout} {c 
   counted_among = omega (arith, h.found_are)
 
   -- there are none, and its costs are charged
-  pub none_charged : {l : Limits} {b : FlowBudget} {q : Checked} → found ≡ 0 → ChargedBack l b start end place m q
+  pub none_charged : {l : Limits} {b : FlowBudget} {q : Counting} → found ≡ 0 → ChargedBack l b start end place m q
       → FoundChecked s parameter x y l b c place found m m t t q
   none_charged {l} {b} {q} z p = record {
     answer = p.answer ∙ none_run (code_of s) parameter l y.words x.slots (host_in (parts_of s)) (exit_set s parameter y.words c)
@@ -281,24 +281,23 @@ pub record Leaving (s : List ℕ) (parameter : ℕ → Bool) (x : Script) (y : L
   pub means : Means y.words (cell m (live_state_row y.blocks)) (exit_set s parameter y.words c)
   pub others : RunningOnly y m₀ m
 
-pub leaving : {s : List ℕ} {parameter : ℕ → Bool} {x : Script} {y : Layout} {c start end place found : ℕ} (w u : List ℕ) → Room y (length w)
-    → ((i : ℕ) → get_or w i 0 < 2 ^ 64) → SetsRoom y (length u) → ((i : ℕ) → get_or u i 0 < 2 ^ 64)
-    → Counted s parameter x y c start end place found (scratch y w) (sets y u)
-    → {m : Mem} → m ≡ store_cell (scratch y w) (running_row Liveness y) (gathered Liveness y (scratch y w) (sets y u) c)
-    → Leaving s parameter x y c start end place found (scratch y w) m (sets y u)
-leaving {s} {parameter} {x} {y} {c} w u room fits more fit h {m} g = record {
+pub leaving : {s : List ℕ} {parameter : ℕ → Bool} {x : Script} {y : Layout} {c start end place found : ℕ} {m₀ t : Mem} → Whole y m₀ → InWords m₀ → SetsWhole y t → InWords t
+    → Counted s parameter x y c start end place found m₀ t
+    → {m : Mem} → m ≡ store_cell m₀ (running_row Liveness y) (gathered Liveness y m₀ t c)
+    → Leaving s parameter x y c start end place found m₀ m t
+leaving {s} {parameter} {x} {y} {c} {m₀ = m₀} {t} z fits zt fit h {m} g = record {
   counted = h;
   coded = (solved_kept only h.solved).coded;
-  means = live_out_means w u room fits more fit h.solved c h.inside g;
+  means = live_out_means z fits zt fit h.solved c h.inside g;
   others = only;
 }
   where
-    only : RunningOnly y (scratch y w) m
-    only = gather-others Liveness (gathered Liveness y (scratch y w) (sets y u) c) g
+    only : RunningOnly y m₀ m
+    only = gather-others Liveness (gathered Liveness y m₀ t c) g
 
 module _ {s : List ℕ} {parameter : ℕ → Bool} {x : Script} {y : Layout} {l : Limits} {b : FlowBudget} {c start end place found : ℕ} {m₀ m t : Mem}
     (h : Leaving s parameter x y c start end place found m₀ m t) where
-  module _ {m' t' : Mem} {q : Checked} (p : AwaitsChecked s x y l b start end (place + found) m m' t t' q) where
+  module _ {m' t' : Mem} {q : Counting} (p : AwaitsChecked s x y l b start end (place + found) m m' t t' q) where
     awaits-answer : checking_of q ≡ block_awaits s parameter x y l c b
     awaits-answer =
         p.answer parameter (exit_set s parameter y.words c) h.means

@@ -10,15 +10,15 @@ use Rattle.dataflow.specs.Code.{Instruction}
 use Rattle.dataflow.specs.Results.{init_entry, live_exit}
 use Rattle.budget.specs.declared.FlowBudget.{FlowBudget}
 use Rattle.budget.specs.declared.Limits.{Limits}
-use Rattle.memory.specs.Cells.{Mem, cell, word, store_cell}
+use Rattle.memory.specs.Cells.{Mem, cell, word, store_cell, InWords}
 use Rattle.memory.specs.Names.{offset_cell, cost_cell, start_cell, end_cell, first_row, state_row, live_state_row, hosts_row, parameters_row, initialized_row, live_row}
 use Rattle.memory.specs.Edges.{Connected}
-use Rattle.memory.specs.Scratch.{scratch, scratch_cells, Room}
-use Rattle.memory.specs.Sets.{sets, SetsRoom, SetsRow}
+use Rattle.memory.specs.Scratch.{scratch_cells, Whole}
+use Rattle.memory.specs.Sets.{SetsRow, SetsWhole}
 use Rattle.sizes.specs.declared.Layout.{Layout}
 use Rattle.memory.proofs.CellLaws.{cell-store_same, cell-store_other, same_word}
-use Rattle.memory.proofs.ScratchLaws.{scratch-length, row_words}
-use Rattle.memory.proofs.SetsLaws.{sets_row_words}
+use Rattle.memory.proofs.ScratchLaws.{sized_among}
+use Rattle.memory.proofs.WordLaws.{row_in_words, set_in_words}
 use Rattle.sheet.specs.declared.script.Script.{Script}
 use Rattle.edges.proofs.FlowLaws.{Still, flows-still}
 use Rattle.transfer.specs.declared.direction.Direction.{Direction}
@@ -28,7 +28,7 @@ use Rattle.fixed_points.specs.FixedPoints.{Sets}
 use Rattle.fixed_points.proofs.CodeGraph.{connected}
 use Rattle.fixed_points.proofs.Gathered.{incoming_bits, live_out_bits}
 use Rattle.answer.specs.Words.{Means}
-use Rattle.reads.specs.Reads.{Checked, held_set, Coded, ReadsChecked}
+use Rattle.reads.specs.Reads.{Counting, held_set, Coded, ReadsChecked}
 use Rattle.reads.proofs.ReadLaws as read
 use Rattle.check_points.specs.CheckPoints.{code_of, Solved}
 
@@ -99,7 +99,7 @@ solved-sets h p = record {
 
 -- `check_reads` changes the running state alone
 pub reads-others : {code : List Instruction} {parameter : ℕ → Bool} {y : Layout} {l : Limits} {b : FlowBudget} {start end : ℕ} {m m' : Mem}
-    {r : Checked} → ReadsChecked code parameter y l b start end m m' r → RunningOnly y m m'
+    {r : Counting} → ReadsChecked code parameter y l b start end m m' r → RunningOnly y m m'
 reads-others p = record { others = λ k a b. p.others k a }
 
 -- ---- gathering
@@ -116,25 +116,24 @@ pub solved-connected : {s : List ℕ} {parameter : ℕ → Bool} {x : Script} {y
 solved-connected p = connected p.scripted p.flows
 
 -- a row that was stored stands for what its words stand for
-pub stored-means : (y : Layout) (l : List ℕ) (w k : ℕ) (ws : List ℕ) (f : ℕ → Bool) {m' : Mem} → k < scratch_cells y
-    → m' ≡ store_cell (scratch y l) k ws → Means w ws f → Means w (cell m' k) f
-stored-means y l w k ws f lt e h =
+pub stored-means : (y : Layout) {m : Mem} → Whole y m → (w k : ℕ) (ws : List ℕ) (f : ℕ → Bool) {m' : Mem} → k < scratch_cells y
+    → m' ≡ store_cell m k ws → Means w ws f → Means w (cell m' k) f
+stored-means y {m} z w k ws f lt e h =
     subst (λ (v : List ℕ). Means w v f)
-    (sym (ap (λ (z : Mem). cell z k) e ∙ cell-store_same (scratch y l) k ws (omega (arith, scratch-length y l)))) h
+    (sym (ap (λ (z : Mem). cell z k) e ∙ cell-store_same m k ws (sized_among y z lt))) h
 
-module _ {s : List ℕ} {parameter : ℕ → Bool} {x : Script} {y : Layout} (l u : List ℕ) (room : Room y (length l)) (fits : (i : ℕ) → get_or l i 0 < 2 ^ 64)
-    (more : SetsRoom y (length u)) (fit : (i : ℕ) → get_or u i 0 < 2 ^ 64) (p : Solved s parameter x y (scratch y l) (sets y u)) (c : ℕ) (lc : c < y.blocks)
-    {m' : Mem} where
+module _ {s : List ℕ} {parameter : ℕ → Bool} {x : Script} {y : Layout} {m t : Mem} (z : Whole y m) (fits : InWords m) (zt : SetsWhole y t) (fit : InWords t)
+    (p : Solved s parameter x y m t) (c : ℕ) (lc : c < y.blocks) {m' : Mem} where
   -- the running state stands for what is initialized at the block's entry
-  pub incoming_means : m' ≡ store_cell (scratch y l) (running_row Initialization y) (gathered Initialization y (scratch y l) (sets y u) c)
+  pub incoming_means : m' ≡ store_cell m (running_row Initialization y) (gathered Initialization y m t c)
       → Means y.words (cell m' (state_row y.blocks)) (init_entry (code_of s) parameter y.words c)
   incoming_means e =
-      stored-means y l y.words (state_row y.blocks) _ _ (omega arith) e
-      (incoming_bits p.scripted p.flows (λ k r. row_words l room r fits) (sets y u) (λ k r. sets_row_words u more r fit) c lc p.sets)
+      stored-means y z y.words (state_row y.blocks) _ _ (omega arith) e
+      (incoming_bits p.scripted p.flows (λ k r. row_in_words z fits r) t (λ k r. set_in_words y zt fit k r) c lc p.sets)
 
   -- the running live set stands for what is live at its exit
-  pub live_out_means : m' ≡ store_cell (scratch y l) (running_row Liveness y) (gathered Liveness y (scratch y l) (sets y u) c)
+  pub live_out_means : m' ≡ store_cell m (running_row Liveness y) (gathered Liveness y m t c)
       → Means y.words (cell m' (live_state_row y.blocks)) (live_exit (code_of s) parameter y.words c)
   live_out_means e =
-      stored-means y l y.words (live_state_row y.blocks) _ _ (omega arith) e
-      (live_out_bits p.scripted p.flows (λ k r. row_words l room r fits) (sets y u) (λ k r. sets_row_words u more r fit) c lc p.sets)
+      stored-means y z y.words (live_state_row y.blocks) _ _ (omega arith) e
+      (live_out_bits p.scripted p.flows (λ k r. row_in_words z fits r) t (λ k r. set_in_words y zt fit k r) c lc p.sets)

@@ -21,7 +21,7 @@ use Rattle.script.specs.Script.{host_in}
 use Rattle.verdict.specs.Points.{Checking, and_then, Point, block_run, blocks_run, points_run, block_points, points}
 use Rattle.awaits.specs.Awaits.{Entries}
 use Rattle.awaits.proofs.BackwardLaws.{entries-kept}
-use Rattle.reads.specs.Reads.{Checked, checking_of, held_set}
+use Rattle.reads.specs.Reads.{Counting, checking_of, held_set}
 use Rattle.reads.proofs.ReadLaws.{same_count, refused-not_passed}
 use Rattle.check_points.specs.CheckPoints.{code_of, Solved, facts_of, Facing, BlockChecked, PointsChecked}
 use Rattle.check_points.proofs.SolvedLaws.{RunningOnly, running-then, held_kept, solved_kept, solved-sets}
@@ -151,7 +151,7 @@ module _ {s : List ℕ} {parameter : ℕ → Bool} {x : Script} {y : Layout} {l 
         (let e : suc (y.blocks - (block + 1)) ≡ y.blocks - block = omega (arith, lt) in e)
         ∙ h.run
 
-    module _ {m'' t'' : Mem} {r : Checked} (p : BlockChecked s parameter x y l left block place m' m'' t' t'' r) where
+    module _ {m'' t'' : Mem} {r : Counting} (p : BlockChecked s parameter x y l left block place m' m'' t' t'' r) where
       -- of scratch the block changes the running rows alone
       only : RunningOnly y m' m''
       only = record { others = p.others }
@@ -203,7 +203,7 @@ module _ {s : List ℕ} {x : Script} {y : Layout} {l : Limits} {b : FlowBudget} 
   turned_held lt = subst (λ (p : ℕ → Bool). Facing s p x y block place m' t') (sym (held_kept h.others)) (turned_facing h lt)
 
   -- what it does, with those of the first words
-  pub block_held : {m'' t'' : Mem} {r : Checked} → BlockChecked s (held_set y m') x y l left block place m' m'' t' t'' r
+  pub block_held : {m'' t'' : Mem} {r : Counting} → BlockChecked s (held_set y m') x y l left block place m' m'' t' t'' r
       → BlockChecked s (held_set y m) x y l left block place m' m'' t' t'' r
   block_held {m''} {t''} {r} p =
       subst (λ (q : ℕ → Bool). BlockChecked s q x y l left block place m' m'' t' t'' r) (held_kept h.others) p

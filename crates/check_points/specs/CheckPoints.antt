@@ -16,7 +16,7 @@ use Rattle.edges.specs.Flow.{Flows}
 use Rattle.fixed_points.specs.FixedPoints.{Sets}
 use Rattle.dataflow.specs.Checked.{Scripted}
 use Rattle.verdict.specs.Points.{Point, awaits_run, block_run, points_run, await_points, points}
-use Rattle.reads.specs.Reads.{Checked, checking_of, Coded, awaits_among}
+use Rattle.reads.specs.Reads.{Counting, checking_of, Coded, awaits_among}
 use Rattle.awaits.specs.Awaits.{Entries}
 
 -- the code of a sheet
@@ -54,7 +54,7 @@ pub record Counted (s : List ℕ) (parameter : ℕ → Bool) (x : Script) (y : L
   pub room : place + found ≤ y.awaits
 
 -- what `check_found` does: the awaits of block c from what is live at its exit
-pub record FoundChecked (s : List ℕ) (parameter : ℕ → Bool) (x : Script) (y : Layout) (l : Limits) (b : FlowBudget) (c place found : ℕ) (m m' t t' : Mem) (r : Checked) : Type 0 where
+pub record FoundChecked (s : List ℕ) (parameter : ℕ → Bool) (x : Script) (y : Layout) (l : Limits) (b : FlowBudget) (c place found : ℕ) (m m' t t' : Mem) (r : Counting) : Type 0 where
   pub answer : checking_of r ≡ awaits_run (code_of s) parameter l y.words x.slots (host_in (parts_of s))
       (live_exit (code_of s) parameter y.words c) (body (code_of s) c) b
   pub count : (n : ℕ) (left : FlowBudget) → r ≡ Ok (n, left) → n ≡ place + found
@@ -64,7 +64,7 @@ pub record FoundChecked (s : List ℕ) (parameter : ℕ → Bool) (x : Script) (
   pub others : (k : ℕ) → (k ≡ state_row y.blocks → ⊥) → (k ≡ live_state_row y.blocks → ⊥) → cell m' k ≡ cell m k
 
 -- what `check_block` does with block c, before which `place` awaits are reached
-pub record BlockChecked (s : List ℕ) (parameter : ℕ → Bool) (x : Script) (y : Layout) (l : Limits) (b : FlowBudget) (c place : ℕ) (m m' t t' : Mem) (r : Checked) : Type 0 where
+pub record BlockChecked (s : List ℕ) (parameter : ℕ → Bool) (x : Script) (y : Layout) (l : Limits) (b : FlowBudget) (c place : ℕ) (m m' t t' : Mem) (r : Counting) : Type 0 where
   pub answer : checking_of r ≡ block_run (code_of s) parameter l y.words x.slots (host_in (parts_of s)) c b
   pub count : (n : ℕ) (left : FlowBudget) → r ≡ Ok (n, left) → n ≡ place + length (facts_of s parameter y.words c)
   pub entries : (n : ℕ) (left : FlowBudget) → r ≡ Ok (n, left) → Entries y t' place (facts_of s parameter y.words c)
@@ -72,7 +72,7 @@ pub record BlockChecked (s : List ℕ) (parameter : ℕ → Bool) (x : Script) (
   pub others : (k : ℕ) → (k ≡ state_row y.blocks → ⊥) → (k ≡ live_state_row y.blocks → ⊥) → cell m' k ≡ cell m k
 
 -- what `check_points` does
-pub record PointsChecked (s : List ℕ) (parameter : ℕ → Bool) (x : Script) (y : Layout) (l : Limits) (b : FlowBudget) (m m' t t' : Mem) (r : Checked) : Type 0 where
+pub record PointsChecked (s : List ℕ) (parameter : ℕ → Bool) (x : Script) (y : Layout) (l : Limits) (b : FlowBudget) (m m' t t' : Mem) (r : Counting) : Type 0 where
   pub answer : checking_of r ≡ points_run (code_of s) parameter l y.words x.slots (host_in (parts_of s)) b
   pub count : (n : ℕ) (left : FlowBudget) → r ≡ Ok (n, left) → n ≡ length (points (code_of s) parameter y.words)
   pub entries : (n : ℕ) (left : FlowBudget) → r ≡ Ok (n, left) → Entries y t' 0 (points (code_of s) parameter y.words)

@@ -11,7 +11,7 @@ use Rattle.format.specs.Types.{absent}
 use Rattle.memory.specs.Cells.{Mem, cell, store_cell}
 use Rattle.memory.specs.Names.{hosts_row}
 use Rattle.sizes.specs.declared.Layout.{Layout}
-use Rattle.memory.specs.Scratch.{scratch, Row}
+use Rattle.memory.specs.Scratch.{Whole}
 use Rattle.memory.proofs.CellLaws.{cell-store_other}
 use Rattle.sheet.specs.declared.script.Script.{Script}
 use Rattle.sheet.specs.Decode.{Parts, parts_of, is_host}
@@ -23,17 +23,6 @@ use Rattle.script.specs.Script.{host_in}
 use Rattle.answer.specs.Words.{Means}
 use Rattle.check_points.proofs.SolvedLaws.{stored-means}
 use Rattle.judge.specs.Judge.{Hosted}
-
--- ---- where it lies
-
--- its cell is a row
-pub hosts-row : (y : Layout) → Row y (hosts_row y.blocks)
-hosts-row y = record { low = omega arith; high = omega arith }
-
--- as wide as asked
-pub hosts-long : (p : Parts) (w : ℕ) → length (host_row p w) ≡ w
-unfolding host_row
-hosts-long p w = length-hosts p.kinds 0 (replicate w 0) ∙ length-replicate w 0
 
 -- ---- what it stands for
 
@@ -68,9 +57,9 @@ module _ (s : List ℕ) (x : Script) (sound : Sound s x) where
   hosted_none y m e = record { row = λ h. absurd (omega arith); others = λ k ne. refl }
 
   -- the row is stored
-  pub hosted_row : (y : Layout) (w : List ℕ) (m' : Mem) → x.slots ≤ 64 * y.words
-      → m' ≡ store_cell (scratch y w) (hosts_row y.blocks) (host_row (parts_of s) y.words) → Hosted s x y (scratch y w) m'
-  hosted_row y w m' wide e = record {
-    row = λ h. stored-means y w y.words (hosts_row y.blocks) _ _ (omega arith) e (hosts_mean y.words wide);
-    others = λ k ne. ap (λ (v : Mem). cell v k) e ∙ cell-store_other (scratch y w) (hosts_row y.blocks) (host_row (parts_of s) y.words) k ne;
+  pub hosted_row : (y : Layout) {m m' : Mem} → Whole y m → x.slots ≤ 64 * y.words
+      → m' ≡ store_cell m (hosts_row y.blocks) (host_row (parts_of s) y.words) → Hosted s x y m m'
+  hosted_row y {m} z wide e = record {
+    row = λ h. stored-means y z y.words (hosts_row y.blocks) _ _ (omega arith) e (hosts_mean y.words wide);
+    others = λ k ne. ap (λ (v : Mem). cell v k) e ∙ cell-store_other m (hosts_row y.blocks) (host_row (parts_of s) y.words) k ne;
   }

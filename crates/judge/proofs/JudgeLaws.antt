@@ -25,7 +25,8 @@ use Rattle.sizes.specs.declared.Lent.{Lent}
 use Rattle.sizes.specs.declared.Stopped.{Stopped}
 use Rattle.rooms.specs.Rooms.{Indexes}
 use Rattle.sizes.specs.Stages.{Staged, halt, rooms_of, if_met, if_ok, stage, graph_of}
-use Rattle.sizes.specs.Sizes.{layout_of}
+use Rattle.sizes.specs.Sizes.{layout_of, scratch_words, sets_words}
+use Rattle.run.specs.Terms.{Bounded}
 use Rattle.sizes.proofs.StageLaws.{rooms_yes}
 use Rattle.reads.specs.Reads.{held_set}
 use Rattle.graph.specs.Graph.{Graphed}
@@ -103,24 +104,35 @@ module _ (s : List ℕ) (parameter : ℕ → Bool) (x : Script) (l : Limits) (re
       held-is : held_set y (scratch y w₁) ≡ parameter
       held-is = fun_ext (λ i. (f.holding y left e).flows.parameters_are i)
 
-      -- what `solve` asks: the sets buffer is as long as it was lent
-      pub solve_asks : length v₁ ≡ length v → Sound s x → ((i : ℕ) → parameter i ≡ true → i < x.slots) → l.work < 2 ^ 64 - 1
-          → Room y (length w₁) × SetsRoom y (length v₁) × (Begun s (held_set y (scratch y w₁)) x y (scratch y w₁) (sets y v₁))
-          × (l.work < 2 ^ 64 - 1)
-      solve_asks long sound below h = (
-        indexes.room,
-        subst (SetsRoom y) (sym long) indexes.sets_room,
-        subst (λ (set : ℕ → Bool). Begun s set x y (scratch y w₁) (sets y v₁)) (sym held-is)
-            (record {
-              sound = sound;
-              fits = indexes.fits;
-              awaits = indexes.awaits;
-              below = below;
-              holding = f.holding y left e;
-              fresh = f.fresh y left e;
-            }),
-        h,
-      )
+      -- the sizes are those of a script that passed
+      pub layout_bounded : Bounded y
+      layout_bounded = record {
+        instructions = indexes.room.instructions;
+        blocks = indexes.room.blocks;
+        words = indexes.room.words;
+        awaits = indexes.sets_room.awaits;
+        extra = indexes.room.extra;
+      }
+
+      -- both buffers are long enough: the sets buffer is as long as it was lent
+      pub scratch_enough : scratch_words y ≤ length w₁
+      scratch_enough = indexes.room.fits
+
+      pub sets_enough : length v₁ ≡ length v → sets_words y ≤ length v₁
+      sets_enough long = omega (arith, long, indexes.sets_room.fits)
+
+      -- what `solve` begins with
+      pub solve_begun : Sound s x → ((i : ℕ) → parameter i ≡ true → i < x.slots) → Begun s (held_set y (scratch y w₁)) x y (scratch y w₁) (sets y v₁)
+      solve_begun sound below =
+          subst (λ (set : ℕ → Bool). Begun s set x y (scratch y w₁) (sets y v₁)) (sym held-is)
+          (record {
+            sound = sound;
+            fits = indexes.fits;
+            awaits = indexes.awaits;
+            below = below;
+            holding = f.holding y left e;
+            fresh = f.fresh y left e;
+          })
 
       -- `solve` answers: both buffers are as long as before
       pub judges_on : (w₂ v₂ : List ℕ) (r : Result Judged Stopped) → length w₂ ≡ length w₁ → length v₂ ≡ length v

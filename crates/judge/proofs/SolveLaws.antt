@@ -15,8 +15,6 @@ use Rattle.memory.specs.Names.{offset_cell, parameters_row}
 use Rattle.sizes.specs.declared.Layout.{Layout}
 use Rattle.sizes.specs.declared.Stopped.{Stopped}
 use Rattle.sizes.specs.Stages.{halt}
-use Rattle.memory.specs.Scratch.{scratch, Room}
-use Rattle.memory.specs.Sets.{SetsRoom}
 use Rattle.memory.proofs.CellLaws.{same_word}
 use Rattle.sheet.specs.declared.script.Script.{Script}
 use Rattle.sheet.specs.Decode.{parts_of}
@@ -32,7 +30,7 @@ use Rattle.dataflow.specs.Charges.{fixed_points_charges}
 use Rattle.fixed_points.specs.Stages.{Flowing}
 use Rattle.fixed_points.proofs.Gathered.{fixed_still}
 use Rattle.bitset.specs.Sets.{member}
-use Rattle.reads.specs.Reads.{held_set, Checked, checking_of}
+use Rattle.reads.specs.Reads.{held_set, Counting, checking_of}
 use Rattle.check_points.specs.CheckPoints.{Solved, PointsChecked}
 use Rattle.check_points.proofs.SolvedLaws.{still-running, sets-kept}
 use Rattle.outcome.specs.Outcome.{accepted, after_points, after_rounds}
@@ -51,16 +49,7 @@ module _ (s : List ℕ) (parameter : ℕ → Bool) (x : Script) (y : Layout) (m 
   pub flowing : Flowing y m
   flowing = (flow_code (parts_of s), parameter, scripted-here, begun.holding.flows)
 
-  -- what `fixed_points` asks; n and k words are lent
-  pub rounds_ask : (l : Limits) (n k : ℕ) → Room y n → SetsRoom y k → l.work < 2 ^ 64 - 1
-      → Room y n × SetsRoom y k × Flowing y m × (l.work < 2 ^ 64 - 1)
-  rounds_ask l n k room sets_room h = (room, sets_room, flowing, h)
-
-  -- what `hosts_if` asks: as many words as were lent
-  pub hosts_ask : (n n' : ℕ) → n' ≡ n → Room y n → Room y n' × (Sound s x) × (x.slots ≤ 64 * y.words)
-  hosts_ask n n' e room = (subst (Room y) (sym e) room, begun.sound, begun.fits.slots)
-
-  module _ (l : Limits) (b : FlowBudget) (w : List ℕ) (t₁ : Mem) (c : Charged) (f : Fixed y l b m (scratch y w) t t₁ c) where
+  module _ (l : Limits) (b : FlowBudget) (m₁ t₁ : Mem) (c : Charged) (f : Fixed y l b m m₁ t t₁ c) where
     -- the charges of both rounds are those of the code
     rounds-charged : c ≡ charged l b (fixed_points_charges (flow_code (parts_of s)) parameter y.words)
     rounds-charged =
@@ -75,13 +64,13 @@ module _ (s : List ℕ) (parameter : ℕ → Bool) (x : Script) (y : Layout) (m 
 
     -- all were met, and then the row of the host slots was stored where it is asked for
     module _ (left : FlowBudget) (ec : c ≡ Ok left) (m₂ : Mem)
-        (eh : Hosted s x y (scratch y w) m₂) where
+        (eh : Hosted s x y m₁ m₂) where
       -- the rounds leave what the words hold of the script
-      rounds-still : Still y m (scratch y w)
+      rounds-still : Still y m m₁
       rounds-still = fixed_still f ec
 
       -- so does that store
-      hosts-still : Still y (scratch y w) m₂
+      hosts-still : Still y m₁ m₂
       hosts-still = record {
         low = λ k lt. eh.others k (λ e. omega arith);
         edges = λ k lo hi. eh.others k (λ e. omega arith);
@@ -118,16 +107,11 @@ module _ (s : List ℕ) (parameter : ℕ → Bool) (x : Script) (y : Layout) (m 
       held-still : held_set y m ≡ parameter → held_set y m₂ ≡ parameter
       held-still h = ap member still.parameters ∙ h
 
-      -- what `check_points` asks: as many words as were lent
-      pub points_ask : held_set y m ≡ parameter → (n n' k k' : ℕ) → n' ≡ n → k' ≡ k → Room y n → SetsRoom y k
-          → Room y n' × SetsRoom y k' × Solved s (held_set y m₂) x y m₂ t₁
-      points_ask h n n' k k' e q room sets_room = (
-        subst (Room y) (sym e) room,
-        subst (SetsRoom y) (sym q) sets_room,
-        subst (λ (set : ℕ → Bool). Solved s set x y m₂ t₁) (sym (held-still h)) solved,
-      )
+      -- what `check_points` asks
+      pub points_ask : held_set y m ≡ parameter → Solved s (held_set y m₂) x y m₂ t₁
+      points_ask h = subst (λ (set : ℕ → Bool). Solved s set x y m₂ t₁) (sym (held-still h)) solved
 
-      module _ (held : held_set y m ≡ parameter) (m₃ t₃ : Mem) (p : Checked) (checked : PointsChecked s (held_set y m₂) x y l left m₂ m₃ t₁ t₃ p) where
+      module _ (held : held_set y m ≡ parameter) (m₃ t₃ : Mem) (p : Counting) (checked : PointsChecked s (held_set y m₂) x y l left m₂ m₃ t₁ t₃ p) where
         -- what it does, with those parameters
         g : PointsChecked s parameter x y l left m₂ m₃ t₁ t₃ p
         g = subst (λ (set : ℕ → Bool). PointsChecked s set x y l left m₂ m₃ t₁ t₃ p) (held-still held) checked
@@ -153,7 +137,7 @@ module _ (s : List ℕ) (parameter : ℕ → Bool) (x : Script) (y : Layout) (m 
         -- it refused
         pub solves_refused : (e : Stopped) → p ≡ Err e → Solves s parameter x y l b m₃ t₃ (Err e)
         solves_refused e q = record {
-          answer = ap (λ (r : Checked). after_points s parameter x l y (checking_of r)) (sym q) ∙ points-answer;
+          answer = ap (λ (r : Counting). after_points s parameter x l y (checking_of r)) (sym q) ∙ points-answer;
           finished = λ j o. let o : ◌≡◌ {A = ℕ} 0 1 = cc in absurd (omega arith);
         }
 
@@ -162,7 +146,7 @@ module _ (s : List ℕ) (parameter : ℕ → Bool) (x : Script) (y : Layout) (m 
             → Solves s parameter x y l b m₃ t₃ (Ok (record { layout = y; awaits = n; budget = last }))
         solves_on n last q = record {
           answer = ap (λ (k : ℕ). accepted x.id y.blocks k last) (g.count n last q)
-              ∙ ap (λ (r : Checked). after_points s parameter x l y (checking_of r)) (sym q) ∙ points-answer;
+              ∙ ap (λ (r : Counting). after_points s parameter x l y (checking_of r)) (sym q) ∙ points-answer;
           finished = λ j e. let same : ◌≡◌ {A = Judged} (record { layout = y; awaits = n; budget = last }) j = cc in
               (ap (λ (z : Judged). z.layout) (sym same), all_finished n last q);
         }

@@ -30,9 +30,9 @@ use Rattle.sizes.specs.Stages.{stopped}
 use Rattle.operands.specs.Kinds.{is_await}
 use Rattle.verdict.specs.Points.{Checking, stop, if_paid, reads_run}
 use Rattle.answer.specs.Words.{Means}
-use Rattle.reads.specs.Reads.{Checked, awaits_among, Used, front_run, ReadsCharged, ReadsChecked}
+use Rattle.reads.specs.Reads.{Counting, awaits_among, Used, front_run, ReadsCharged, ReadsChecked}
 use Rattle.reads.specs.Reads.{await_count}
-use Rattle.reads.proofs.ReadLaws.{refused-not_passed, same_count, awaits-more, counted-once}
+use Rattle.reads.proofs.ReadLaws.{refused-not_passed, awaits-more, counted-once}
 
 -- ---- after the instructions from start to pc
 
@@ -43,22 +43,7 @@ pub record Charging (code : List Instruction) (l : Limits) (budget left : FlowBu
   pub few : awaits + start ≤ pc
 
 module _ {code : List Instruction} {l : Limits} {budget : FlowBudget} {start end : ℕ} where
-  -- before the first of them
-  pub charging_none : Charging code l budget budget start end start 0
-  charging_none =
-      let e : start - start ≡ 0 = omega arith in
-      record { run = refl; counted = rw e refl; few = omega arith }
-
   module _ {left : FlowBudget} {pc awaits : ℕ} (a : Charging code l budget left start end pc awaits) where
-    -- all are charged
-    pub charges_made : pc ≡ end → ReadsCharged code l budget start end (Ok (awaits, left))
-    unfolding front_run
-    charges_made q = record {
-      answer = let e : end - pc ≡ 0 = omega arith in
-          sym (a.run ∙ ap (λ (n : ℕ). front_run (cost_at code) l (range pc n) left) e);
-      counted = λ n x e. sym (same_count e) ∙ a.counted ∙ ap (awaits_among code start) q;
-    }
-
     module _ (h : pc < end) {cost : ℕ} (c : cost ≡ cost_at code pc) where
       step : {r : Charged} → r ≡ charged l left (cost ∷ [])
           → front_run (cost_at code) l (range pc (end - pc)) left ≡ if_paid r (front_run (cost_at code) l (range (suc pc) (end - suc pc)))
@@ -129,7 +114,7 @@ module _ (code : List Instruction) (parameter : ℕ → Bool) (l : Limits) where
       later false false t p q = q refl
 
 -- what a block uses is in the running state, so all its reads are filled
-pub charged-filled : (code : List Instruction) (parameter : ℕ → Bool) (y : Layout) (l : Limits) (b : FlowBudget) (c start end : ℕ) (m : Mem) (r : Checked)
+pub charged-filled : (code : List Instruction) (parameter : ℕ → Bool) (y : Layout) (l : Limits) (b : FlowBudget) (c start end : ℕ) (m : Mem) (r : Counting)
     → start ≤ end → ((i : ℕ) → i < end → (instruction_at code i).emptied ≡ []) → Used code parameter c start end m
     → length (cell m (state_row y.blocks)) ≡ y.words → within (cell m (uses_row c)) (cell m (state_row y.blocks)) ≡ true
     → ReadsCharged code l b start end r → ReadsChecked code parameter y l b start end m m r

@@ -24,6 +24,10 @@ use Rattle.memory.specs.Names.{cost_cell, offset_cell, state_row, hosts_row}
 use Rattle.sizes.specs.declared.Layout.{Layout}
 use Rattle.sizes.specs.declared.Stopped.{Stopped}
 use Rattle.sizes.specs.Stages.{stopped}
+use Rattle.memory.specs.Scratch.{Whole, Row}
+use Rattle.memory.specs.declared.names.SlotRow.TheVariants.{State}
+use Rattle.memory.proofs.ScratchLaws.{sized_among, sized_row}
+use Rattle.memory.proofs.NamedLaws.{row_there}
 use Rattle.memory.proofs.CellLaws.{same_word, cell-store_same, cell-store_other}
 use Rattle.operands.specs.Kinds.{kind_number, is_await}
 use Rattle.operands.specs.Patterns.{fits}
@@ -40,17 +44,17 @@ use Rattle.blocks.proofs.TransferLaws.{range-more}
 use Rattle.blocks.proofs.MemberLaws.{member-all}
 use Rattle.verdict.specs.Points.{Checking, stop, if_paid, reads_run}
 use Rattle.answer.specs.Words.{Means}
-use Rattle.reads.specs.Reads.{Checked, Coded, awaits_among, ReadsChecked}
+use Rattle.reads.specs.Reads.{Counting, Coded, awaits_among, ReadsChecked}
 use Rattle.reads.specs.Reads.{await_count}
 
 -- ---- answers
 
 -- answers that passed with the same number
-pub same_count : {n k : ℕ} {b d : FlowBudget} → ◌≡◌ {A = Checked} (Ok (n, b)) (Ok (k, d)) → n ≡ k
+pub same_count : {n k : ℕ} {b d : FlowBudget} → ◌≡◌ {A = Counting} (Ok (n, b)) (Ok (k, d)) → n ≡ k
 same_count {n} {k} {b} {d} e = let same : ◌≡◌ {A = ℕ × FlowBudget} (n, b) (k, d) = cc in ap (λ (r : ℕ × FlowBudget). r.0) same
 
 -- a refusal is none that passed
-pub refused-not_passed : {e : Stopped} {n : ℕ} {b : FlowBudget} → ◌≡◌ {A = Checked} (Err e) (Ok (n, b)) → ⊥
+pub refused-not_passed : {e : Stopped} {n : ℕ} {b : FlowBudget} → ◌≡◌ {A = Counting} (Err e) (Ok (n, b)) → ⊥
 refused-not_passed e = let o : ◌≡◌ {A = ℕ} 0 1 = cc in absurd (omega arith)
 
 -- ---- awaits counted
@@ -161,17 +165,6 @@ module _ {code : List Instruction} {parameter : ℕ → Bool} {y : Layout} {l : 
       record { run = λ f h. (f, h, refl); counted = rw e refl; few = omega arith; others = λ k h. refl }
 
   module _ {left : FlowBudget} {pc awaits : ℕ} {m' : Mem} (a : Reading code parameter y l budget left start end pc awaits m m') where
-    -- all reads are filled
-    pub reads_filled : pc ≡ end → ReadsChecked code parameter y l budget start end m m' (Ok (awaits, left))
-    unfolding reads_run
-    reads_filled q = record {
-      answer = λ f h. let r = a.run f h in
-          let e : end - pc ≡ 0 = omega arith in
-          sym (r.2 ∙ ap (λ (n : ℕ). reads_run code parameter l r.0 (range pc n) left) e);
-      counted = λ n x e. sym (same_count e) ∙ a.counted ∙ ap (awaits_among code start) q;
-      others = a.others;
-    }
-
     module _ (h : pc < end) {cost : ℕ} (c : cost ≡ cost_at code pc) where
       -- what follows the charge, if the set is g before pc
       abbrev after : (ℕ → Bool) → FlowBudget → Checking
@@ -206,39 +199,37 @@ module _ {code : List Instruction} {parameter : ℕ → Bool} {y : Layout} {l : 
             (stop UnfilledSlot b)) (ap (every g) p ∙ q)
 
         -- an input is missing
-        pub reads_unfilled : {row : ℕ} → row ≡ state_row y.blocks → {t : Bool} → t ≡ not (every (member (cell m' row)) ins) → t ≡ true
+        pub reads_unfilled : {t : Bool} → t ≡ not (every (member (cell m' (state_row y.blocks))) ins) → t ≡ true
             → ReadsChecked code parameter y l budget start end m m' (stopped UnfilledSlot b)
-        reads_unfilled {row} i {t} q v = record {
+        reads_unfilled {t} q v = record {
           answer = λ f g. let u = a.run f g in
-              sym (u.2 ∙ met u.0 false (sym (means-every y.words _ u.0 u.1 ins ib)
-              ∙ ap (λ (n : ℕ). every (member (cell m' n)) ins) (sym i) ∙ not_yes (every (member (cell m' row)) ins) (sym q ∙ v)));
+              sym (u.2 ∙ met u.0 false (sym (means-every y.words _ u.0 u.1 ins ib) ∙ not_yes (every (member (cell m' (state_row y.blocks))) ins) (sym q ∙ v)));
           counted = λ n z' w. absurd (refused-not_passed w);
           others = a.others;
         }
 
         -- one instruction more
-        pub reading_more : {row : ℕ} (kind : ℕ) {k : ℕ} {outs : List ℕ} {m₁ : Mem} → row ≡ state_row y.blocks → row < length m'
-            → length (cell m' row) ≡ y.words
-            → {t : Bool} → t ≡ not (every (member (cell m' row)) ins) → t ≡ false
+        pub reading_more : (kind : ℕ) {k : ℕ} {outs : List ℕ} {m₁ : Mem} → Whole y m'
+            → {t : Bool} → t ≡ not (every (member (cell m' (state_row y.blocks))) ins) → t ≡ false
             → (instruction_at code pc).outputs ≡ outs → (instruction_at code pc).emptied ≡ [] → AllBelow (64 * y.words) outs
-            → m₁ ≡ store_cell m' row (inserted_all outs (cell m' row)) → await_at code pc ≡ is_await kind → k ≡ await_count kind → start ≤ pc
-            → Reading code parameter y l budget b start end (pc + 1) (awaits + k) m m₁
-        reading_more {row} kind {k} {outs} {m₁} i lt wide {t} all filled out none ob s aw ek sp =
-            let same : cell m₁ (state_row y.blocks) ≡ inserted_all outs (cell m' (state_row y.blocks)) =
-            subst (λ (z : ℕ). cell m₁ z ≡ inserted_all outs (cell m' z)) i (ap (λ (z : Mem). cell z row) s ∙ cell-store_same m' row _ lt) in
+            → m₁ ≡ store_cell m' (state_row y.blocks) (inserted_all outs (cell m' (state_row y.blocks))) → await_at code pc ≡ is_await kind
+            → k ≡ await_count kind → start ≤ pc → Reading code parameter y l budget b start end (pc + 1) (awaits + k) m m₁
+        reading_more kind {k} {outs} {m₁} z {t} all filled out none ob s aw ek sp =
+            let row : ℕ = state_row y.blocks in
+            let r : Row y row = row_there State tt in
+            let same : cell m₁ row ≡ inserted_all outs (cell m' row) =
+            ap (λ (w : Mem). cell w row) s ∙ cell-store_same m' row _ (sized_among y z r.high) in
             record {
               run = λ f g. let u = a.run f g in (
                 (λ s. init_transfer (program code parameter) pc s (u.0 s)),
                 subst (λ (ws : List ℕ). Means y.words ws (λ s. init_transfer (program code parameter) pc s (u.0 s))) (sym same)
-                    (means-init code parameter pc y.words (cell m' (state_row y.blocks)) u.0 outs
-                    (ap (λ (z : ℕ). length (cell m' z)) (sym i) ∙ wide) out ob u.1 none),
-                u.2 ∙ met u.0 true (sym (means-every y.words _ u.0 u.1 ins ib)
-                    ∙ ap (λ (n : ℕ). every (member (cell m' n)) ins) (sym i) ∙ not-no (every (member (cell m' row)) ins) (sym all ∙ filled))
+                    (means-init code parameter pc y.words (cell m' row) u.0 outs (sized_row y z r) out ob u.1 none),
+                u.2 ∙ met u.0 true (sym (means-every y.words _ u.0 u.1 ins ib) ∙ not-no (every (member (cell m' row)) ins) (sym all ∙ filled))
                     ∙ ap (λ (z : ℕ). reads_run code parameter l (λ s. init_transfer (program code parameter) pc s (u.0 s)) (range z (end - z)) b) next,
               );
               counted = ap₂ (λ (p q : ℕ). p + q) a.counted ek ∙ sym (awaits-more code start pc kind sp aw);
               few = omega (arith, a.few, counted-once kind k ek);
-              others = λ z f. ap (λ (w : Mem). cell w z) s ∙ cell-store_other m' row _ z (λ w. f (w ∙ i)) ∙ a.others z f;
+              others = λ z f. ap (λ (w : Mem). cell w z) s ∙ cell-store_other m' row _ z f ∙ a.others z f;
             }
           where
             next : suc pc ≡ pc + 1

@@ -42,16 +42,16 @@ abbrev pub awaits_among : List Instruction → ℕ → ℕ → ℕ
 awaits_among code start end = length (keep (await_at code) (range start (end - start)))
 
 -- what a check answers: a number of awaits and the budget to go on with, or a refusal
-abbrev pub Checked : Type 0
-Checked = Result (ℕ × FlowBudget) Stopped
+abbrev pub Counting : Type 0
+Counting = Result (ℕ × FlowBudget) Stopped
 
 -- an answer as that of the run
-abbrev pub checking_of : Checked → Checking
+abbrev pub checking_of : Counting → Checking
 checking_of (Ok r) = on r.1
 checking_of (Err e) = stop e.why e.budget
 
 -- what `check_reads` does with the instructions from start to end
-pub record ReadsChecked (code : List Instruction) (parameter : ℕ → Bool) (y : Layout) (l : Limits) (b : FlowBudget) (start end : ℕ) (m m' : Mem) (r : Checked) : Type 0 where
+pub record ReadsChecked (code : List Instruction) (parameter : ℕ → Bool) (y : Layout) (l : Limits) (b : FlowBudget) (start end : ℕ) (m m' : Mem) (r : Counting) : Type 0 where
   pub answer : (f : ℕ → Bool) → Means y.words (cell m (state_row y.blocks)) f → checking_of r ≡ reads_run code parameter l f (range start (end - start)) b
   pub counted : (n : ℕ) (left : FlowBudget) → r ≡ Ok (n, left) → n ≡ awaits_among code start end
   pub others : (k : ℕ) → (k ≡ state_row y.blocks → ⊥) → cell m' k ≡ cell m k
@@ -66,6 +66,6 @@ front_run cost l [] b = on b
 front_run cost l (i ∷ is) b = if_paid (charged l b (cost i ∷ [])) (front_run cost l is)
 
 -- what `charge_reads` does with the instructions from start to end
-pub record ReadsCharged (code : List Instruction) (l : Limits) (b : FlowBudget) (start end : ℕ) (r : Checked) : Type 0 where
+pub record ReadsCharged (code : List Instruction) (l : Limits) (b : FlowBudget) (start end : ℕ) (r : Counting) : Type 0 where
   pub answer : checking_of r ≡ front_run (cost_at code) l (range start (end - start)) b
   pub counted : (n : ℕ) (left : FlowBudget) → r ≡ Ok (n, left) → n ≡ awaits_among code start end

@@ -3,10 +3,7 @@ use Rattle.check_points.proofs.CheckedLaws.{counted_span, none_charged}
 use Rattle.check_points.proofs.check_found.Goals as goal
 
 pub charge_back-requires : goal.charge_back-requires
-charge_back-requires c =
-    let p = c.requires in
-    let span = counted_span p.2 in
-    (p.0, span.ordered, span.inside)
+charge_back-requires g c = let span = counted_span c.requires in (span.ordered, span.inside)
 
 pub returns-then-found-eq0 : goal.returns-then-found-eq0
-returns-then-found-eq0 c = none_charged c.requires.2 c.if-found-eq0.true c.charge_back.ensures
+returns-then-found-eq0 g c = none_charged c.requires c.if-found-eq0.true c.charge_back.ensures

@@ -6,38 +6,32 @@ use Rattle.check_points.proofs.CheckedLaws.{counted_span, counted_among, leaving
 use Rattle.check_points.proofs.check_leaving.Goals as goal
 
 pub gather-requires : goal.gather-requires
-gather-requires c =
+gather-requires g c =
     let p = c.requires in
-    (p.0, p.1, p.2.inside, solved-connected p.2.solved)
+    (p.inside, solved-connected p.solved)
 
 pub overflow_add-next : goal.overflow_add-next
-overflow_add-next c =
-    let p = c.requires in
-    omega (arith, p.2.room, p.1.awaits)
+overflow_add-next g c =
+    omega (arith, c.requires.room, g.R.Run.bounded.awaits)
 
 pub check_awaits-requires : goal.check_awaits-requires
-check_awaits-requires c =
-    let span = counted_span c.requires.2 in
-    let lv = leaving c.args.s.now c.args.t.now c.requires.0 (search rules) c.requires.1
-    (search rules) c.requires.2 c.gather.ensures in (
-      search rules,
-      c.requires.1,
+check_awaits-requires g c =
+    let span = counted_span c.requires in
+    let lv = leaving c.layout.ensures.whole c.layout.ensures.words c.layout-2.ensures.whole c.layout-2.ensures.words c.requires c.gather.ensures in (
       lv.coded,
       span.ordered,
       span.inside,
-      counted_among c.requires.2,
-      c.requires.2.room,
+      counted_among c.requires,
+      c.requires.room,
     )
 
 pub returns-in_err-left : goal.returns-in_err-left
-returns-in_err-left c =
-    let lv = leaving c.args.s.now c.args.t.now c.requires.0 (search rules) c.requires.1
-    (search rules) c.requires.2 c.gather.ensures in
+returns-in_err-left g c =
+    let lv = leaving c.layout.ensures.whole c.layout.ensures.words c.layout-2.ensures.whole c.layout-2.ensures.words c.requires c.gather.ensures in
     let p = err_from_is_err_and c.from_residual.result c.from_residual.ensures.1 in
     rw (p.1, p.2) (awaits_refused lv c.in_err-left.ensures refl)
 
 pub returns : goal.returns
-returns c =
-    let lv = leaving c.args.s.now c.args.t.now c.requires.0 (search rules) c.requires.1
-    (search rules) c.requires.2 c.gather.ensures in
+returns g c =
+    let lv = leaving c.layout.ensures.whole c.layout.ensures.words c.layout-2.ensures.whole c.layout-2.ensures.words c.requires c.gather.ensures in
     awaits_reached lv c.in_ok-left.ensures refl

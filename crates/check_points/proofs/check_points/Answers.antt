@@ -6,21 +6,21 @@ use Rattle.check_points.proofs.TurnLaws.{turned_none, turned_all, turned_held, b
 use Rattle.check_points.proofs.check_points.Goals as goal
 
 pub loop-block-init : goal.loop-block-init
-loop-block-init c =
-    turned_none c.args.limits c.args.budget c.requires.2
+loop-block-init g c =
+    turned_none g.R.Run.limits c.args.meter c.requires
 
 pub check_block-requires : goal.check_block-requires
-check_block-requires c =
-    (search rules, search rules, turned_held c.loop-block.invariant c.loop-block-test.true)
+check_block-requires g c =
+    turned_held c.loop-block.invariant (rw c.layout-block-end.ensures.is at c.loop-block-test.true)
 
 pub returns-in_err-next : goal.returns-in_err-next
-returns-in_err-next c =
+returns-in_err-next g c =
     let p = err_from_is_err_and c.from_residual.result c.from_residual.ensures.1 in
-    rw (p.1, p.2) (turned_over c.loop-block.invariant c.loop-block-test.true (block_held c.loop-block.invariant c.in_err-next.ensures) refl)
+    rw (p.1, p.2) (turned_over c.loop-block.invariant (rw c.layout-block-end.ensures.is at c.loop-block-test.true) (block_held c.loop-block.invariant c.in_err-next.ensures) refl)
 
 pub loop-block-preserved : goal.loop-block-preserved
-loop-block-preserved c =
-    turned_more c.loop-block.invariant c.loop-block-test.true (block_held c.loop-block.invariant c.in_ok-next.ensures) refl
+loop-block-preserved g c =
+    turned_more c.loop-block.invariant (rw c.layout-block-end.ensures.is at c.loop-block-test.true) (block_held c.loop-block.invariant c.in_ok-next.ensures) refl
 
 pub returns : goal.returns
-returns c = turned_all c.loop-block.invariant (omega arith)
+returns g c = turned_all c.loop-block.invariant (rw c.layout-block-end.ensures.is at c.loop-block-test.false)

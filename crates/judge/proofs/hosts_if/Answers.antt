@@ -1,12 +1,12 @@
 -- `judge::hosts_if` meets its contract. Assumes nothing.
-use Rattle.memory.specs.Scratch.{scratch}
+use Rattle.instructions.proofs.Sound.{sound}
 use Rattle.judge.proofs.HostLaws.{hosted_none, hosted_row}
 use Rattle.judge.proofs.hosts_if.Goals as goal
 
-pub returns-then-script-eq0 : goal.returns-then-script-eq0
-returns-then-script-eq0 c =
-    hosted_none c.args.sheet.now c.args.script c.requires.1 c.args.y (scratch c.args.y c.args.s.now) c.if-script-eq0.true
+pub returns-then-sheet-eq0 : goal.returns-then-sheet-eq0
+returns-then-sheet-eq0 g c =
+    hosted_none _ _ (sound _ _ c.args.sheet.now.passed) g.R.Run.layout _ c.if-sheet-eq0.true
 
 pub returns : goal.returns
-returns c =
-    hosted_row c.args.sheet.now c.args.script c.requires.1 c.args.y c.args.s.now _ c.requires.2 c.hosts.ensures
+returns g c =
+    hosted_row _ _ (sound _ _ c.args.sheet.now.passed) g.R.Run.layout c.layout.ensures.whole c.requires c.hosts.ensures

@@ -1,34 +1,43 @@
 -- `judge::judge` meets its contract. Assumes nothing.
-use Rattle.std.proofs.Common.{arith}
+use Rattle.std.proofs.Common.{refl, arith, rules}
 use Rattle.std.proofs.lemmas.Result.{err_from_is_err_and}
-use Rattle.judge.proofs.JudgeLaws.{judges_short, judges_refused, solve_asks, judges_on}
-use Rattle.sheet.specs.Decode.{parts_of}
-use Rattle.starts.specs.Starts.{parameter_with}
+use Rattle.instructions.proofs.Sound.{sound}
+use Rattle.judge.proofs.JudgeLaws.{judges_short, judges_refused, layout_bounded, scratch_enough, sets_enough, solve_begun, judges_on}
 use Rattle.starts.proofs.StartLaws.{with_below}
 use Rattle.judge.proofs.judge.Goals as goal
 
-pub returns-then-s-script : goal.returns-then-s-script
-returns-then-s-script c =
-    let a = c.args in
-    judges_short a.sheet.now (parameter_with (parts_of a.sheet.now) a.added.now) a.script a.limits a.records a.budget a.s.now a.t.now _ _ (omega (arith, c.if-s-script.true))
+pub overflow_mul-sheet : goal.overflow_mul-sheet
+overflow_mul-sheet c = let ok = sound _ _ c.args.sheet.now.passed in omega (arith, ok.few_code)
 
-pub returns-in_err-y : goal.returns-in_err-y
-returns-in_err-y c =
-    let a = c.args in
+pub returns-then-s-sheet : goal.returns-then-s-sheet
+returns-then-s-sheet c =
+    judges_short _ _ c.args.sheet.now.script c.args.limits c.args.records c.args.budget _ _ _ _ (omega (arith, c.if-s-sheet.true))
+
+pub returns-in_err-layout : goal.returns-in_err-layout
+returns-in_err-layout c =
     let p = err_from_is_err_and c.from_residual.result c.from_residual.ensures.1 in
-    rw (p.1, p.2) (judges_refused a.sheet.now (parameter_with (parts_of a.sheet.now) a.added.now) a.script a.limits a.records a.budget a.s.now a.t.now
-    (omega (arith, c.if-s-script.false)) _ _ _ c.graph.ensures _ c.in_err-y.was)
+    rw (p.1, p.2) (judges_refused _ _ _ _ _ _ _ _ (omega (arith, c.if-s-sheet.false)) _ _ _ c.graph.ensures _ c.in_err-layout.was)
+
+pub invariant_of-solve : goal.invariant_of-solve
+invariant_of-solve c = record {
+  bounded = layout_bounded _ _ _ _ _ _ _ _ (omega (arith, c.if-s-sheet.false)) _ _ _ c.graph.ensures _ _ c.in_ok-layout.was;
+}
 
 pub solve-requires : goal.solve-requires
 solve-requires c =
-    let a = c.args in
-    solve_asks a.sheet.now (parameter_with (parts_of a.sheet.now) a.added.now) a.script a.limits a.records a.budget a.s.now a.t.now (omega (arith, c.if-s-script.false))
-    _ _ _ c.graph.ensures _ _ c.in_ok-y.was (omega (arith, c.graph.auto.s)) c.requires.0
-    (with_below a.sheet.now a.script c.requires.0 a.added.now) c.requires.1
+    let enough = c.if-s-sheet.false in
+    let ok = sound _ _ c.args.sheet.now.passed in (
+      refl,
+      refl,
+      record { named = refl; long = refl },
+      record { named = refl; long = refl },
+      scratch_enough _ _ _ _ _ _ _ _ (omega (arith, enough)) _ _ _ c.graph.ensures _ _ c.in_ok-layout.was,
+      sets_enough _ _ _ _ _ _ _ _ (omega (arith, enough)) _ _ _ c.graph.ensures _ _ c.in_ok-layout.was (omega (arith, c.graph.auto.t)),
+      c.requires,
+      solve_begun _ _ _ _ _ _ _ _ (omega (arith, enough)) _ _ _ c.graph.ensures _ _ c.in_ok-layout.was ok (with_below _ _ ok c.args.added.now),
+    )
 
 pub returns : goal.returns
 returns c =
-    let a = c.args in
-    judges_on a.sheet.now (parameter_with (parts_of a.sheet.now) a.added.now) a.script a.limits a.records a.budget a.s.now a.t.now (omega (arith, c.if-s-script.false))
-    _ _ _ c.graph.ensures _ _ c.in_ok-y.was _ _ _ (omega (arith, c.solve.auto.s))
-    (omega (arith, c.solve.auto.s, c.graph.auto.s)) c.solve.ensures
+    judges_on _ _ _ _ _ _ _ _ (omega (arith, c.if-s-sheet.false))
+    _ _ _ c.graph.ensures _ _ c.in_ok-layout.was _ _ _ (search rules) (search rules) (search (rules, c.solve.ensures.solved))

@@ -1,12 +1,9 @@
 -- `reads::block_reads` meets its contract: what the block uses is initialized, so its reads are filled; else `check_reads` answers.
 -- Assumes nothing.
 use Rattle.reads.specs.Reads.{held_set}
-use Rattle.std.proofs.Common.{sym, ap, ap₂, ◌∙◌, ℕ, arith}
+use Rattle.std.proofs.Common.{sym, ap, ap₂, ◌∙◌, List, ℕ, length, arith}
 use Rattle.bitset.specs.Operations.{within}
 use Rattle.dataflow.specs.Code.{Instruction}
-use Rattle.memory.specs.Cells.{cell}
-use Rattle.memory.specs.Scratch.{scratch}
-use Rattle.memory.proofs.ScratchLaws.{row_length}
 use Rattle.script.specs.Script.{flow_code}
 use Rattle.script.proofs.ScriptLaws.{code_at}
 use Rattle.sheet.specs.Decode.{parts_of}
@@ -14,14 +11,12 @@ use Rattle.reads.proofs.FrontLaws.{charged-filled}
 use Rattle.reads.proofs.block_reads.Goals as goal
 
 pub returns-then-within : goal.returns-then-within
-returns-then-within c =
+returns-then-within g c =
     let a = c.args in
-    let m = scratch a.y a.s.now in
-    charged-filled (flow_code (parts_of a.sheet.now)) (held_set a.y m) a.y a.limits a.budget a.block a.start
-    a.end m _ c.requires.4
-    (λ i h. ap (λ (v : Instruction). v.emptied)
-    (code_at a.sheet.now a.script c.requires.1.sound i (omega (arith, h, c.requires.5, c.requires.1.instructions))))
-    c.requires.3 (row_length a.s.now c.requires.0 (record { low = omega arith; high = omega arith }))
-    (ap₂ (λ (d k : ℕ). within (cell m d) (cell m k)) (sym c.uses.ensures) (sym c.state.ensures)
-    ∙ sym c.within.ensures ∙ c.if-within.true)
+    let s = a.sheet.now.bytes.now in
+    let m = a.s.now in
+    charged-filled (flow_code (parts_of s)) (held_set g.R.Run.layout m) g.R.Run.layout g.R.Run.limits a.meter a.block a.start a.end m _ c.requires.3
+    (λ i h. ap (λ (v : Instruction). v.emptied) (code_at s a.sheet.now.script c.requires.0.sound i (omega (arith, h, c.requires.4, c.requires.0.instructions))))
+    c.requires.2 (ap (λ (ws : List ℕ). length ws) (sym c.row-2.ensures.is) ∙ c.row-2.ensures.long)
+    (ap₂ within (sym c.row.ensures.is) (sym c.row-2.ensures.is) ∙ sym c.within.ensures ∙ c.if-within.true)
     c.charge_reads.ensures
