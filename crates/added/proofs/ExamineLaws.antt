@@ -1,114 +1,138 @@
--- `examine_with`: what it does by what its calls do. Assumes nothing.
+-- `examine` and `check`: what they do by what their calls do. Assumes nothing.
 use mathlib.Core.Path.{◌≡◌, refl, sym, ap, subst, ◌∙◌}
 use mathlib.Core.Bool.{Bool, true, false, ◌||◌}
-use mathlib.Core.List.{List, [], ◌∷◌}
+use mathlib.Core.List.{List, []}
 use Prim.Native.Nat.{ℕ, ◌*◌, ◌≤◌}
 use native.Mathlib.Omega.{arith}
 use borrow.Author.Tests.{ltb-false}
 use lib.Dec.{ltb}
 use lib.ListN.{length}
+use Rattle.std.proofs.Common.{Option, None, Some}
+use Rattle.std.specs.Option.{MatchOption, unwrap_or}
 use Rattle.std.specs.Prelude.{Result, Ok, Err}
+use denote.Bor.{Bor}
 use Rattle.dataflow.specs.Lists.{pick}
 use Rattle.budget.specs.declared.FlowBudget.{FlowBudget}
 use Rattle.budget.specs.declared.Limits.{Limits}
-use Rattle.format.specs.declared.refusal.Refusal.{Refusal}
 use Rattle.format.specs.declared.refusal.Refusal.TheVariants.{NoSuchSlot, NoRoom}
 use Rattle.format.proofs.Or.{or_none}
 use Rattle.sheet.specs.declared.script.Script.{Script}
 use Rattle.sheet.specs.declared.script.Refused as sheets
 use Rattle.sheet.specs.Decode.{parts_of}
-use Rattle.sheet.specs.Checks.{Checks}
-use Rattle.sheet.specs.Scripts.{script_of}
+use Rattle.sheet.specs.Scripts.{script_of, checked_of}
 use Rattle.sheet.proofs.Checked.{passed}
-use Rattle.instructions.specs.Sound.{Sound}
-use Rattle.instructions.proofs.Sound.{sound-checked}
 use Rattle.bitset.proofs.SetLaws.{member-zero}
 use Rattle.script.specs.Script.{parameter_in}
 use Rattle.starts.specs.Starts.{parameter_with}
 use Rattle.starts.proofs.StartLaws.{with_none}
-use Rattle.outcome.specs.Outcome.{Lengths, lengths_with, Outcome, refused}
+use Rattle.outcome.specs.Outcome.{Lengths, lengths_with, Outcome, refused, after_checks, outcome_of}
 use Rattle.outcome.specs.Buffers.{sets_after}
 use Rattle.examine.specs.declared.Examined.{Examined}
 use Rattle.examine.specs.declared.Refused.{Refused}
 use Rattle.examine.specs.Examine.{outcome_in, Examines}
-use Rattle.examine.specs.Stages.{PassedAs, turned_away, zeros}
+use Rattle.examine.specs.Stages.{turned_away, zeros}
 use Rattle.added.specs.Added.{width_of, strays, Taken}
-use Rattle.added.specs.Outcome.{judged_with, after_checks_with, outcome_with}
-use Rattle.added.specs.Examine.{tested_of, ExaminesWith}
+use Rattle.added.specs.Outcome.{after_checks_with, outcome_with}
+use Rattle.added.specs.Examine.{if_taken, tested_sheet, ExaminesWith}
 use Rattle.added.proofs.OutcomeLaws.{taken_outcome}
 
--- the sizes of a script that passed
-pub sound_here : (s : List ℕ) (x : Script) → PassedAs s x → Sound s x
-sound_here s x p = sound-checked s (Ok x) x p refl
-
 -- neither of two lengths is too short
-pub second_long : (a b c d : ℕ) → (ltb a b || ltb c d) ≡ false → d ≤ c
+second_long : (a b c d : ℕ) → (ltb a b || ltb c d) ≡ false → d ≤ c
 second_long a b c d e = ltb-false c d (or_none (ltb a b) (ltb c d) e).1
 
 -- ---- what the test of a set says
 
-abbrev Test : Type 0
-Test = Result (Unit {0}) Refusal
+module _ (x : Script) where
+  abbrev tested : Bool → Bool → Result Script sheets.Refused
+  tested t u = if_taken (pick t (Err (record { why = NoRoom; id = x.id })) (pick u (Err (record { why = NoSuchSlot; id = x.id })) (Ok tt))) x
 
-module _ (id : ℕ) (b : FlowBudget) where
-  bad-judged : (t u : Bool) (r : Refusal) (o : Outcome) → ◌≡◌ {A = Test} (Err r) (pick t (Err NoRoom) (pick u (Err NoSuchSlot) (Ok tt)))
-      → refused r id b ≡ pick t (refused NoRoom id b) (pick u (refused NoSuchSlot id b) o)
-  bad-judged true u r o e = let q : r ≡ NoRoom = cc in ap (λ (z : Refusal). refused z id b) q
-  bad-judged false true r o e = let q : r ≡ NoSuchSlot = cc in ap (λ (z : Refusal). refused z id b) q
-  bad-judged false false r o e = let q : ◌≡◌ {A = ℕ} 0 1 = cc in absurd (omega arith)
+  test_bad : (t u : Bool) (e : sheets.Refused) (b : FlowBudget) (o : Outcome) → tested t u ≡ Err e
+      → refused e.why e.id b ≡ pick t (refused NoRoom x.id b) (pick u (refused NoSuchSlot x.id b) o)
+  test_bad true u e b o q =
+      let same : ◌≡◌ {A = sheets.Refused} e (record { why = NoRoom; id = x.id }) = cc in ap (λ (z : sheets.Refused). refused z.why z.id b) same
+  test_bad false true e b o q =
+      let same : ◌≡◌ {A = sheets.Refused} e (record { why = NoSuchSlot; id = x.id }) = cc in ap (λ (z : sheets.Refused). refused z.why z.id b) same
+  test_bad false false e b o q = let z : ◌≡◌ {A = ℕ} 0 1 = cc in absurd (omega arith)
 
-good-both : (t u : Bool) → ◌≡◌ {A = Test} (Ok tt) (pick t (Err NoRoom) (pick u (Err NoSuchSlot) (Ok tt))) → (t ≡ false) × (u ≡ false)
-good-both true u e = let q : ◌≡◌ {A = ℕ} 0 1 = cc in absurd (omega arith)
-good-both false true e = let q : ◌≡◌ {A = ℕ} 0 1 = cc in absurd (omega arith)
-good-both false false e = (refl, refl)
+  test_good : (t u : Bool) (y : Script) → tested t u ≡ Ok y → (t ≡ false) × (u ≡ false)
+  test_good true u y q = let z : ◌≡◌ {A = ℕ} 0 1 = cc in absurd (omega arith)
+  test_good false true y q = let z : ◌≡◌ {A = ℕ} 0 1 = cc in absurd (omega arith)
+  test_good false false y q = (refl, refl)
 
-module _ (s added : List ℕ) (l : Limits) (records : ℕ) (b : FlowBudget) (w v : List ℕ) where
-  abbrev n : Lengths
-  n = lengths_with w v records
+refused-by : (s added : List ℕ) (l : Limits) (n : Lengths) (b : FlowBudget) (e : sheets.Refused) (c : Result Script sheets.Refused)
+    → tested_sheet added n.scratch c ≡ Err e → refused e.why e.id b ≡ after_checks_with s added l n b c
+refused-by s added l n b e (Err z) q = let same : e ≡ z = cc in ap (λ (u : sheets.Refused). refused u.why u.id b) same
+refused-by s added l n b e (Ok x) q =
+    test_bad x (ltb n.scratch (4 * x.count) || ltb (length added) (width_of x.slots)) (strays x.slots added) e b _ q
 
-  -- a refusal with the budget as given; the sets buffer is cleared
-  turned-away : (q : Refusal) (id : ℕ) (w' v' : List ℕ) (r : Result Examined Refused) → refused q id b ≡ outcome_with s added l n b
-      → r ≡ turned_away q id b → v' ≡ zeros v → ExaminesWith s added l records b w w' v v' r
-  turned-away q id w' v' r eo er ev = record {
-    answer = ap outcome_in er ∙ eo;
-    sets = ev ∙ ap (λ (z : Result Examined Refused). sets_after s (parameter_with (parts_of s) added) n (outcome_in z)) (sym er);
-    listing = λ x e. let o : ◌≡◌ {A = ℕ} 0 1 = cc in absurd (omega arith);
-  }
+taken-by : (s added : List ℕ) (scratch : ℕ) {x : Script} (c : Result Script sheets.Refused) → checked_of s ≡ c → tested_sheet added scratch c ≡ Ok x
+    → Taken (script_of s).slots added
+taken-by s added scratch (Err z) ec q = let o : ◌≡◌ {A = ℕ} 0 1 = cc in absurd (omega arith)
+taken-by s added scratch {x} (Ok y) ec q =
+    let z = test_good y (ltb scratch (4 * y.count) || ltb (length added) (width_of y.slots)) (strays y.slots added) x q in
+    let long = second_long scratch (4 * y.count) (length added) (width_of y.slots) z.0 in
+    subst (λ (u : Script). Taken u.slots added) (passed s y ec).1 (record { long = long; slots_only = z.1 })
 
-  -- the checks refuse
-  pub bad_sheet_with : (c : Result Script sheets.Refused) → Checks s c → (e : sheets.Refused) (w' v' : List ℕ) (r : Result Examined Refused) → c ≡ Err e
-      → r ≡ turned_away e.why e.id b → v' ≡ zeros v → ExaminesWith s added l records b w w' v v' r
-  unfolding outcome_with
-  bad_sheet_with c checks e w' v' r ec = turned-away e.why e.id w' v' r (ap (after_checks_with s added l n b) (sym ec ∙ checks.answer))
+-- ---- the answers
 
-  -- they pass
-  module _ (x : Script) (p : PassedAs s x) where
-    answer-is : judged_with s added l n b x ≡ outcome_with s added l n b
+module _ {s : List ℕ} {l : Limits} {records : ℕ} {b : FlowBudget} {w w₁ v v' : List ℕ} where
+  -- a refusal by the checks, with the budget as given; the sets buffer is cleared
+  module _ {e : sheets.Refused} {r : Refused} (er : r ≡ turned_away e.why e.id b) (ev : v' ≡ zeros v) where
+    pub refuses_own : checked_of s ≡ Err e → Examines s (parameter_in (parts_of s)) l records b w w₁ v v' (Err r)
+    unfolding outcome_of
+    refuses_own ec = record {
+      answer = ap (λ (z : Refused). outcome_in (Err z)) er ∙ sym (ap (after_checks s (parameter_in (parts_of s)) l (lengths_with w v records) b) ec);
+      sets = ev ∙ ap (λ (z : Refused). sets_after s (parameter_in (parts_of s)) (lengths_with w v records) (outcome_in (Err z))) (sym er);
+      listing = λ x q. let o : ◌≡◌ {A = ℕ} 0 1 = cc in absurd (omega arith);
+    }
+
+    pub refuses_with : {added : List ℕ} → tested_sheet added (length w) (checked_of s) ≡ Err e → ExaminesWith s added l records b w w₁ v v' (Err r)
     unfolding outcome_with
-    answer-is = ap (after_checks_with s added l n b) p.answer
+    refuses_with {added} ec = record {
+      answer = ap (λ (z : Refused). outcome_in (Err z)) er ∙ refused-by s added l (lengths_with w v records) b e (checked_of s) ec;
+      sets = ev ∙ ap (λ (z : Refused). sets_after s (parameter_with (parts_of s) added) (lengths_with w v records) (outcome_in (Err z))) (sym er);
+      listing = λ x q. let o : ◌≡◌ {A = ℕ} 0 1 = cc in absurd (omega arith);
+    }
 
-    script-is : x ≡ script_of s
-    script-is = (passed s x (sym p.answer)).1
+  -- the script is judged: words without a bit add nothing, and a set that is taken makes its slots parameters
+  module _ {r : Result Examined Refused} {bytes : List ℕ} (same : bytes ≡ s) where
+    pub passes_own : Examines bytes (parameter_with (parts_of bytes) []) l records b w w₁ v v' r
+        → Examines s (parameter_in (parts_of s)) l records b w w₁ v v' r
+    passes_own h =
+        subst (λ (set : ℕ → Bool). Examines s set l records b w w₁ v v' r) (with_none (parts_of s) [] (member-zero 0))
+        (subst (λ (t : List ℕ). Examines t (parameter_with (parts_of t) []) l records b w w₁ v v' r) same h)
 
-    -- the set is not taken
-    pub not_taken : (q : Refusal) (w' v' : List ℕ) (r : Result Examined Refused) → Err q ≡ tested_of added x (length w)
-        → r ≡ turned_away q x.id b → v' ≡ zeros v → ExaminesWith s added l records b w w' v v' r
-    not_taken q w' v' r e = turned-away q x.id w' v' r
-        (bad-judged x.id b (ltb (length w) (4 * x.count) || ltb (length added) (width_of x.slots)) (strays x.slots added) q _ e ∙ answer-is)
+    pub passes_with : {added : List ℕ} {x : Script} → tested_sheet added (length w) (checked_of s) ≡ Ok x
+        → Examines bytes (parameter_with (parts_of bytes) added) l records b w w₁ v v' r → ExaminesWith s added l records b w w₁ v v' r
+    passes_with {added} ec g =
+        let h = subst (λ (t : List ℕ). Examines t (parameter_with (parts_of t) added) l records b w w₁ v v' r) same g in
+        record {
+          answer = h.answer ∙ sym (taken_outcome s added l (lengths_with w v records) b (taken-by s added (length w) (checked_of s) refl ec));
+          sets = h.sets;
+          listing = h.listing;
+        }
 
-    -- the script is judged
-    pub judged_taken : (w' v' : List ℕ) (r : Result Examined Refused) → Ok tt ≡ tested_of added x (length w)
-        → Examines s (parameter_with (parts_of s) added) l records b w w' v v' r → ExaminesWith s added l records b w w' v v' r
-    judged_taken w' v' r e h =
-        let z = good-both (ltb (length w) (4 * x.count) || ltb (length added) (width_of x.slots)) (strays x.slots added) e in
-        let long = second_long (length w) (4 * x.count) (length added) (width_of x.slots) z.0 in
-        let taken : Taken (script_of s).slots added = subst (λ (y : Script). Taken y.slots added) script-is (record { long = long; slots_only = z.1 }) in
-        record { answer = h.answer ∙ sym (taken_outcome s added l n b taken); sets = h.sets; listing = h.listing }
+-- ---- with such a set or without
 
--- ---- no added set
+-- a set as it is lent
+abbrev Added : Type 0
+Added = Option (Bor (List ℕ))
 
--- words without a bit add nothing
-pub nothing_added : {s : List ℕ} {l : Limits} {records : ℕ} {b : FlowBudget} {w w₁ v v' : List ℕ} {r : Result Examined Refused}
-    → Examines s (parameter_with (parts_of s) (0 ∷ [])) l records b w w₁ v v' r → Examines s (parameter_in (parts_of s)) l records b w w₁ v v' r
-nothing_added {s = s} {l = l} {records = records} {b = b} {w = w} {w₁ = w₁} {v = v} {v' = v'} {r = r} h =
-    subst (λ (set : ℕ → Bool). Examines s set l records b w w₁ v v' r) (with_none (parts_of s) (0 ∷ []) (member-zero 1)) h
+abbrev Does : List ℕ → Limits → ℕ → FlowBudget → List ℕ → List ℕ → List ℕ → List ℕ → Result Examined Refused → Added → Type 0
+Does s l records b w w₁ v v' r o =
+    MatchOption o (Examines s (parameter_in (parts_of s)) l records b w w₁ v v' r) (λ set. ExaminesWith s set.now l records b w w₁ v v' r)
+
+pub refuses : (s : List ℕ) (l : Limits) (records : ℕ) (b : FlowBudget) (w w₁ v v' : List ℕ) (o : Added) (e : sheets.Refused) (r : Refused)
+    → MatchOption o (checked_of s ≡ Err e) (λ set. tested_sheet set.now (length w) (checked_of s) ≡ Err e)
+    → r ≡ turned_away e.why e.id b → v' ≡ zeros v → Does s l records b w w₁ v v' (Err r) o
+refuses s l records b w w₁ v v' None e r h er ev = refuses_own er ev h
+refuses s l records b w w₁ v v' (Some set) e r h er ev = refuses_with er ev h
+
+pub passes : (s bytes : List ℕ) (l : Limits) (records : ℕ) (b : FlowBudget) (w w₁ v v' : List ℕ) (o : Added) (d u : Bor (List ℕ))
+    (r : Result Examined Refused) (x : Script)
+    → MatchOption o ((bytes ≡ s) × (checked_of s ≡ Ok x)) (λ set. (bytes ≡ s) × (tested_sheet set.now (length w) (checked_of s) ≡ Ok x))
+    → d.now ≡ [] → u ≡ unwrap_or o d → Examines bytes (parameter_with (parts_of bytes) u.now) l records b w w₁ v v' r → Does s l records b w w₁ v v' r o
+passes s bytes l records b w w₁ v v' None d u r x h empty is g =
+    passes_own h.0 (subst (λ (z : List ℕ). Examines bytes (parameter_with (parts_of bytes) z) l records b w w₁ v v' r) (ap (λ (z : Bor (List ℕ)). z.now) is ∙ empty) g)
+passes s bytes l records b w w₁ v v' (Some set) d u r x h empty is g =
+    passes_with h.0 h.1 (subst (λ (z : Bor (List ℕ)). Examines bytes (parameter_with (parts_of bytes) z.now) l records b w w₁ v v' r) is g)

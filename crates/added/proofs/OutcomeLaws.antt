@@ -27,7 +27,7 @@ use Rattle.starts.specs.Starts.{parameter_with}
 use Rattle.starts.proofs.StartLaws.{with_below}
 use Rattle.outcome.specs.Outcome.{Lengths, Outcome, accepted, refused, judged, after_checks, outcome_of}
 use Rattle.outcome.specs.Buffers.{sets_after}
-use Rattle.demands.proofs.TableLaws.{passed-id, table}
+use Rattle.demands.proofs.TableLaws.{pick_yes, pick_no, passed-id, table}
 use Rattle.demands.proofs.DemandLaws.{Below, sound_script}
 use Rattle.added.specs.Added.{width_of, strays, Taken}
 use Rattle.added.specs.Outcome.{judged_with, after_checks_with, outcome_with, DueWith}
@@ -37,13 +37,6 @@ use Rattle.added.proofs.StrayLaws.{strays_iff, no_strays}
 -- the parameters of a sheet that passed are slots of it, the added ones too
 pub added-below : (s added : List ℕ) → Below s (parameter_with (parts_of s) added)
 added-below s added passed = with_below s (script_of s) (sound_script s passed) added
-
--- a choice whose test is known
-pub pick_yes : {A : Type 0} {t : Bool} (a c : A) → t ≡ true → pick t a c ≡ a
-pick_yes a c e = rw e refl
-
-pub pick_no : {A : Type 0} {t : Bool} (a c : A) → t ≡ false → pick t a c ≡ c
-pick_no a c e = rw e refl
 
 -- two early tests, then a third: where the last two fail, the first is what a later choice asks again
 once : {A : Type 0} (t u v : Bool) (a c d : A) → u ≡ false → v ≡ false → pick (t || u) a (pick v c (pick t a d)) ≡ pick t a d

@@ -1,22 +1,20 @@
--- What a call does by what `examine` does. Assumes nothing.
-use mathlib.Core.Path.{◌≡◌, refl, sym, ap, subst, ◌∙◌}
+-- What a call does by what the examination does. Assumes nothing.
+use mathlib.Core.Path.{◌≡◌, refl, sym, ap, ◌∙◌}
 use mathlib.Core.Bool.{Bool}
-use mathlib.Core.List.{List, [], ◌∷◌}
-use Prim.Native.Nat.{ℕ}
+use mathlib.Core.List.{List}
+use Prim.Native.Nat.{ℕ, ◌≤◌}
 use native.Mathlib.Omega.{arith}
 use lib.ListN.{length, replicate}
 use Rattle.std.specs.Prelude.{Result, Ok, Err}
-use Rattle.bitset.proofs.SetLaws.{member-zero}
 use Rattle.budget.specs.declared.FlowBudget.{FlowBudget}
 use Rattle.budget.specs.declared.Limits.{Limits}
-use Rattle.budget.specs.Budget.{todays, counted}
-use Rattle.sizes.specs.declared.Layout.{Layout}
-use Rattle.memory.specs.Scratch.{Room}
+use Rattle.sizes.specs.Sizes.{scratch_words}
+use Rattle.run.specs.Terms.{Bounded, nothing-bounded}
 use Rattle.sheet.specs.Decode.{parts_of}
 use Rattle.sheet.specs.Scripts.{script_of}
 use Rattle.script.specs.Script.{parameter_in}
 use Rattle.starts.specs.Starts.{parameter_with}
-use Rattle.starts.proofs.StartLaws.{own_below, with_below, with_none}
+use Rattle.starts.proofs.StartLaws.{own_below, with_below}
 use Rattle.outcome.specs.Outcome.{Lengths, lengths_with, outcome_of}
 use Rattle.outcome.specs.Buffers.{sets_after}
 use Rattle.demands.proofs.TableLaws.{table}
@@ -36,16 +34,6 @@ own-slots s passed = own_below s (script_of s) (sound_script s passed)
 pub with_slots : (s added : List ℕ) → Below s (parameter_with (parts_of s) added)
 with_slots s added passed = with_below s (script_of s) (sound_script s passed) added
 
--- ---- neither limits nor an added set
-
--- today's limits count as they are, and nothing is added
-pub at_todays : {s : List ℕ} {l : Limits} {records : ℕ} {b : FlowBudget} {w w₁ v v' : List ℕ} {e : Result Examined Refused} → l ≡ todays
-    → Examines s (parameter_with (parts_of s) (0 ∷ [])) (counted l) records b w w₁ v v' e
-    → Examines s (parameter_in (parts_of s)) todays records b w w₁ v v' e
-at_todays {s = s} {records = records} {b = b} {w = w} {w₁ = w₁} {v = v} {v' = v'} {e = e} q h =
-    subst (λ (set : ℕ → Bool). Examines s set todays records b w w₁ v v' e) (with_none (parts_of s) (0 ∷ []) (member-zero 1))
-    (subst (λ (k : Limits). Examines s (parameter_with (parts_of s) (0 ∷ [])) k records b w w₁ v v' e) (ap counted q) h)
-
 -- ---- the answer
 
 -- it keeps the outcome
@@ -53,21 +41,18 @@ pub same_outcome : (e : Result Examined Refused) → outcome_by (answer_in e) �
 same_outcome (Ok x) = refl
 same_outcome (Err e) = refl
 
--- what filling a block list asks: scratch has room for the layout. The first is of any answer whose blocks are listed, also one with an added set.
-pub fill_asks-listed : {s : List ℕ} {records : ℕ} {w₁ : List ℕ} {e : Result Examined Refused}
-    → ((x : Examined) → e ≡ Ok x → Listing s records w₁ x.layout)
-    → (y : Layout) → y ≡ layout_in e → Room y (length w₁)
-fill_asks-listed {w₁ = w₁} {e = e} listing y q = subst (λ (z : Layout). Room z (length w₁)) (sym q) (go e refl)
-  where
-    go : (f : Result Examined Refused) → e ≡ f → Room (layout_in f) (length w₁)
-    go (Ok x) q = (listing x q).room
-    go (Err z) q = record { instructions = omega arith; blocks = omega arith; words = omega arith; extra = omega arith; fits = omega arith }
+-- the layout of the blocks in scratch: what listing them asks. The answer may be of a call with an added set.
+module _ {s : List ℕ} {records : ℕ} {w₁ : List ℕ} where
+  pub listed_bounded : (e : Result Examined Refused) → ((x : Examined) → e ≡ Ok x → Listing s records w₁ x.layout) → Bounded (layout_in e)
+  listed_bounded (Ok x) listing = (listing x refl).bounded
+  listed_bounded (Err z) listing = nothing-bounded
 
-pub fill_asks : {s : List ℕ} {parameter : ℕ → Bool} {l : Limits} {records : ℕ} {b : FlowBudget} {w w₁ v v' : List ℕ} {e : Result Examined Refused}
-    → Examines s parameter l records b w w₁ v v' e → (y : Layout) → y ≡ layout_in e → Room y (length w₁)
-fill_asks h = fill_asks-listed h.listing
+  pub listed_fits : (e : Result Examined Refused) → ((x : Examined) → e ≡ Ok x → Listing s records w₁ x.layout)
+      → scratch_words (layout_in e) ≤ length w₁
+  listed_fits (Ok x) listing = (listing x refl).fits
+  listed_fits (Err z) listing = omega arith
 
--- a call whose answer is that of `examine`, and which then clears scratch
+-- a call whose answer is that of the examination, and which then clears scratch
 pub verified : {s : List ℕ} {parameter : ℕ → Bool} {l : Limits} {b : FlowBudget} {records : ℕ} {w w₁ w' v v' : List ℕ} {e : Result Examined Refused}
     → Below s parameter → Examines s parameter l records b w w₁ v v' e → (r : Answer) → r ≡ answer_in e → w' ≡ replicate (length w₁) 0
     → length w₁ ≡ length w → Verified s parameter l (lengths_with w v records) b (outcome_by r) v' w'

@@ -10,7 +10,6 @@ use Rattle.demands.specs.Table.{Due}
 use Rattle.examine.specs.declared.Examined.{Examined}
 use Rattle.examine.specs.declared.Refused.{Refused}
 use Rattle.answers.specs.declared.Accepted.{Accepted}
-use Rattle.answers.specs.declared.AnswerWithin.{AnswerWithin}
 
 -- the answer of a call
 abbrev pub Answer : Type 0
@@ -38,10 +37,6 @@ pub record Verified (s : List ℕ) (parameter : ℕ → Bool) (l : Limits) (n : 
 abbrev pub answer_in : Result Examined Refused → Answer
 answer_in (Ok x) = Ok (record { id = x.id; blocks = x.layout.blocks; awaits = x.awaits; budget = x.budget })
 answer_in (Err e) = Err e
-
--- with the limits as they were given
-abbrev pub answer_within : Result Examined Refused → Limits → AnswerWithin
-answer_within r l = record { answer = answer_in r; limits = l }
 
 -- the layout in it: none after a refusal
 abbrev pub layout_in : Result Examined Refused → Layout

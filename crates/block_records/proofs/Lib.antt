@@ -1,3 +1,2 @@
--- laws
-pub mod Filled
+-- Laws of the block list as structs.
 pub mod RecordLaws

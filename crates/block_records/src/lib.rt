@@ -1,19 +1,17 @@
 // The block list for hosts: a lent slice of block structs, filled from the words of scratch.
 #![tactic(auto)]
 
-ghost use Rattle.std.specs.Prelude.{◌≡◌, ◌<◌, ◌^◌, ◌%◌, length};
-ghost use Rattle.dataflow.specs.Lists.{tabulate};
-ghost use Rattle.memory.specs.Cells.{word};
-ghost use Rattle.memory.specs.Edges.{edge_word};
-ghost use Rattle.memory.specs.Scratch.{scratch, Room, Place};
-ghost use Rattle.block_records.specs.Records.{block_in, listed_block};
+ghost use Rattle.std.specs.Prelude.{◌≡◌, ◌<◌, ◌^◌, ◌%◌};
+ghost use Rattle.block_records.specs.Records.{block_in};
 
-use memory::layout;
-use sizes::Layout;
+use blocklist::Listed;
+use memory::names::Cell;
+use memory::scratch::Scratch;
+use run::Run;
 
 // A block: where it begins and ends, whether a path reaches it (0 or 1), how many successors it has, and which blocks they are, unused ones 0.
 #[repr(C)]
-#[derive(Clone, Copy, PartialEq, Eq, Debug)]
+#[derive(Clone, Copy, PartialEq, Eq, Debug, Default)]
 pub struct Block {
     pub start: u32,
     pub end: u32,
@@ -23,67 +21,46 @@ pub struct Block {
     pub successor_1: u32,
 }
 
-// Each record of the list: the blocks, then zeros.
-pub fn fill(list: &mut [Block], s: &[u64], y: Layout)
-    requires { Room y (length s.now) }
-    ensures { list.new ≡ tabulate 0 (length list.old) (listed_block (scratch y s.now) y.blocks) }
-{
-    for (i, block) in list.iter_mut().enumerate() {
-        *block = record(s, y, i);
-    }
-}
+// A struct is a whole record.
+impl Listed for Block {
+    ghost use Rattle.std.proofs.Common.{arith};
+    ghost use Rattle.block_records.specs.Records.{listed_block};
 
-// Record i of the list: a block, or zero behind the last one.
-pub fn record(s: &[u64], y: Layout, i: usize) -> Block
-    requires { Room y (length s.now) }
-    ensures { result ≡ listed_block (scratch y s.now) y.blocks i }
-{
-    if i < y.blocks {
-        return block_at(s, y, i);
+    const PER_RECORD: usize = 1;
+
+    ghost PER_RECORD = { 1 };
+
+    ghost listed = { listed_block };
+
+    #[tactic(auto, unfolding(crate::specs::Records::listed_block))]
+    fn element<R: Run>(s: &Scratch<'_, R>, i: usize) -> Block {
+        if i < s.layout().blocks {
+            return block_at(s, i);
+        }
+        Block::default()
     }
-    Block {
-        start: 0,
-        end: 0,
-        reachable: 0,
-        successor_count: 0,
-        successor_0: 0,
-        successor_1: 0,
-    }
+
+    ghost some = { Prim.omega arith };
 }
 
 // A block from its words.
-fn block_at(s: &[u64], y: Layout, i: usize) -> Block
-    requires { Room y (length s.now) × (i < y.blocks) }
-    ensures { result ≡ block_in (scratch y s.now) i }
+fn block_at<R: Run>(s: &Scratch<'_, R>, i: usize) -> Block
+    requires { i < R.layout.blocks }
+    ensures { result ≡ block_in s.now i }
 {
-    let start = cut(s, y, layout::START, i);
-    let end = cut(s, y, layout::END, i);
-    let reachable = cut(s, y, layout::REACHABLE, i);
-    let count = cut(s, y, layout::SUCCESSOR_COUNT, i);
-    let first = edge_word(s, y, i, 0);
-    let second = edge_word(s, y, i, 1);
     Block {
-        start: start,
-        end: end,
-        reachable: reachable,
-        successor_count: count,
-        successor_0: first,
-        successor_1: second,
+        start: cut(s.get(Cell::Start, i)),
+        end: cut(s.get(Cell::End, i)),
+        reachable: cut(s.get(Cell::Reachable, i)),
+        successor_count: cut(s.get(Cell::SuccessorCount, i)),
+        successor_0: cut(s.edge_word(i, 0)),
+        successor_1: cut(s.edge_word(i, 1)),
     }
 }
 
-// The k-th of its two edge words, cut to 32 bits.
-fn edge_word(s: &[u64], y: Layout, block: usize, k: usize) -> u32
-    requires { Room y (length s.now) × (block < y.blocks) × (k < 2) }
-    ensures { result ≡ edge_word (scratch y s.now) block k % 2 ^ 32 }
+// A word cut to 32 bits.
+fn cut(word: u64) -> u32
+    ensures { result ≡ word % 2 ^ 32 }
 {
-    (memory::edges::get(s, y, block, k) % 4294967296) as u32
-}
-
-// Word i of cell k, cut to 32 bits.
-fn cut(s: &[u64], y: Layout, k: usize, i: usize) -> u32
-    requires { Room y (length s.now) × Place y k i }
-    ensures { result ≡ word (scratch y s.now) k i % 2 ^ 32 }
-{
-    (memory::scratch::get(s, y, k, i) % 4294967296) as u32
+    (word % 4294967296) as u32
 }

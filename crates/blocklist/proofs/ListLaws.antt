@@ -12,7 +12,7 @@ use Rattle.dataflow.proofs.Lists.{length_tabulate, get_d_tabulate, range_at, ran
 use Rattle.memory.specs.Cells.{Mem}
 use Rattle.outcome.specs.Buffers.{joined, padded}
 use Rattle.outcome.proofs.JoinedLaws.{joined_at, joined-range}
-use Rattle.blocklist.specs.List.{record_in, list_word, list_words}
+use Rattle.blocklist.specs.List.{record_in, list_word}
 use Rattle.blocklist.proofs.WordLaws.{word_inside, word_behind}
 
 module _ (m : Mem) (f : ℕ → List ℕ) (six : (c : ℕ) → length (f c) ≡ 6) (blocks n : ℕ) (is : (c : ℕ) → c < blocks → record_in m c ≡ f c) (fits : 6 * blocks ≤ n) where
@@ -49,8 +49,7 @@ module _ (m : Mem) (f : ℕ → List ℕ) (six : (c : ℕ) → length (f c) ≡ 
       ∙ get_or-append-add all (replicate (n - length all) 0) (k - length all) 0
       ∙ get_or-replicate (n - length all) (k - length all) 0 0 (omega (arith, all-long)))
 
-  pub list_is : list_words m blocks n ≡ padded n all
-  unfolding list_words
+  pub list_is : tabulate 0 n (list_word m blocks) ≡ padded n all
   list_is =
       ext_get_or 0 (tabulate 0 n (list_word m blocks)) (padded n all)
       (omega (arith, length_tabulate 0 n (list_word m blocks), length-append all (replicate (n - length all) 0), length-replicate {A = ℕ} (n - length all) 0, all-long))

@@ -1,6 +1,6 @@
 -- The block list as words: six a record, then zeros.
 use Rattle.std.specs.Prelude.{List, [], ◌∷◌, ℕ, ◌/◌, ◌%◌, ltb, get_or}
-use Rattle.dataflow.specs.Lists.{pick, tabulate}
+use Rattle.dataflow.specs.Lists.{pick}
 use Rattle.memory.specs.Cells.{Mem, word}
 use Rattle.memory.specs.Names.{start_cell, end_cell, reachable_cell, successor_count_cell}
 use Rattle.memory.specs.Edges.{edge_word}
@@ -14,7 +14,3 @@ record_in m c =
 -- word k of the list of so many blocks, and 0 behind them
 unfoldable pub list_word : Mem → ℕ → ℕ → ℕ
 list_word m blocks k = pick (ltb (k / 6) blocks) (get_or (record_in m (k / 6)) (k % 6) 0) 0
-
--- n words of it
-unfoldable pub list_words : Mem → ℕ → ℕ → List ℕ
-list_words m blocks n = tabulate 0 n (list_word m blocks)

@@ -44,10 +44,10 @@ use Rattle.demands.specs.Table.{
 }
 
 -- a choice whose test is known
-pick_yes : {A : Type 0} {t : Bool} (a c : A) → t ≡ true → pick t a c ≡ a
+pub pick_yes : {A : Type 0} {t : Bool} (a c : A) → t ≡ true → pick t a c ≡ a
 pick_yes a c e = rw e refl
 
-pick_no : {A : Type 0} {t : Bool} (a c : A) → t ≡ false → pick t a c ≡ c
+pub pick_no : {A : Type 0} {t : Bool} (a c : A) → t ≡ false → pick t a c ≡ c
 pick_no a c e = rw e refl
 
 -- the id of a sheet that passed

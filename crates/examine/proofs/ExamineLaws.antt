@@ -1,4 +1,4 @@
--- `finish` and `examine`: what their calls ask for, and what they do by what the calls do. Assumes nothing.
+-- `passed`: what its calls ask for, and what it does by what they do. Assumes nothing.
 use mathlib.Core.Path.{◌≡◌, refl, sym, ap, subst, ◌∙◌}
 use mathlib.Core.Bool.{Bool}
 use mathlib.Core.List.{List, ◌++◌}
@@ -13,14 +13,12 @@ use Rattle.budget.specs.declared.Limits.{Limits}
 use Rattle.sizes.specs.declared.Layout.{Layout}
 use Rattle.sizes.specs.declared.Stopped.{Stopped}
 use Rattle.sheet.specs.declared.script.Script.{Script}
-use Rattle.sheet.specs.declared.script.Refused as sheets
 use Rattle.sheet.specs.Decode.{parts_of}
-use Rattle.sheet.specs.Checks.{Checks}
-use Rattle.sheet.specs.Scripts.{script_of}
+use Rattle.sheet.specs.Scripts.{script_of, checked_of}
 use Rattle.sheet.proofs.Checked.{passed}
 use Rattle.script.specs.Script.{flow_code}
 use Rattle.instructions.specs.Sound.{Sound}
-use Rattle.instructions.proofs.Sound.{sound-checked}
+use Rattle.instructions.proofs.Sound.{sound}
 use Rattle.verdict.specs.Points.{points}
 use Rattle.check_points.proofs.SpanLaws.{points_few}
 use Rattle.outcome.specs.Outcome.{lengths_with, after_checks, judged, outcome_of}
@@ -31,38 +29,14 @@ use Rattle.judge.specs.Judge.{outcome_with, AcceptedWords, Judges}
 use Rattle.examine.specs.declared.Examined.{Examined}
 use Rattle.examine.specs.declared.Refused.{Refused}
 use Rattle.examine.specs.Examine.{outcome_in, Listing, Examines}
-use Rattle.examine.specs.Stages.{turned_away, zeros, cut_at, examined_by, Acceptable, Finishing, Finishes}
+use Rattle.examine.specs.Stages.{turned_away, taken_as, zeros, cut_at, examined_by, Acceptable}
 use Rattle.sizes.specs.Sizes.{answer_words}
 use Rattle.examine.proofs.ContentLaws.{content}
 use Rattle.examine.proofs.ListingLaws.{listing}
 
--- ---- `finish`
-
 -- the words of the answer are there
 pub answer-inside : (y : Layout) (awaits : ℕ) (v : List ℕ) → Acceptable y awaits v → answer_words y awaits ≤ length v
 answer-inside y awaits v h = omega (arith, h.room.fits, mul-le-mul_right (1 + y.words) h.few)
-
-module _ (id : ℕ) (r : Result Judged Stopped) (v : List ℕ) where
-  -- the judging accepted
-  pub finishes_on : (j : Judged) (v' : List ℕ) → r ≡ Ok j → v' ≡ cut_at (answer_words j.layout j.awaits) v → Finishes id r v v' (examined_by id (Ok j))
-  finishes_on j v' e ev = record {
-    answer = ap (examined_by id) (sym e);
-    kept = λ k q.
-        let same : j ≡ k = cc in
-        ev ∙ ap (λ (z : Judged). cut_at (answer_words z.layout z.awaits) v) same;
-    cleared = λ k q. let o : ◌≡◌ {A = ℕ} 0 1 = cc in absurd (omega arith);
-  }
-
-  -- it refused
-  pub finishes_refused : (e : Stopped) (v' : List ℕ) (x : Result Examined Refused) → r ≡ Err e → x ≡ turned_away e.why id e.budget → v' ≡ zeros v
-      → Finishes id r v v' x
-  finishes_refused e v' x er ex ev = record {
-    answer = ex ∙ ap (examined_by id) (sym er);
-    kept = λ j q. let o : ◌≡◌ {A = ℕ} 0 1 = cc in absurd (omega arith);
-    cleared = λ k q. ev;
-  }
-
--- ---- `examine`
 
 -- words cut behind what they begin with
 cut-padded : (l m : List ℕ) (k n : ℕ) → k ≤ length l → length l ≡ n → take k l ≡ m → cut_at k l ≡ padded n m
@@ -76,98 +50,78 @@ outcome-same : (id : ℕ) (r : Result Judged Stopped) → outcome_in (examined_b
 outcome-same id (Ok j) = refl
 outcome-same id (Err e) = refl
 
-module _ (s : List ℕ) (parameter : ℕ → Bool) (l : Limits) (records : ℕ) (b : FlowBudget) (w v : List ℕ) (c : Result Script sheets.Refused) (checks : Checks s c) where
-  -- the checks refuse
-  pub examines_refused : (e : sheets.Refused) (w' v' : List ℕ) (r : Result Examined Refused) → c ≡ Err e → r ≡ turned_away e.why e.id b
-      → v' ≡ zeros v → Examines s parameter l records b w w' v v' r
+-- ---- a script that passed, and is judged
+
+module _ (s : List ℕ) (parameter : ℕ → Bool) (l : Limits) (records : ℕ) (b : FlowBudget) (w v : List ℕ) (x : Script) (ec : checked_of s ≡ Ok x)
+    (d : Result Judged Stopped) (w₁ v₁ : List ℕ) (h : Judges s parameter x l records b w w₁ v v₁ d) where
+  sound_here : Sound s x
+  sound_here = sound s x ec
+
+  judged-is : judged s parameter x l (lengths_with w v records) b ≡ outcome_of s parameter l (lengths_with w v records) b
   unfolding outcome_of
-  examines_refused e w' v' r ec er ev = record {
-    answer = ap outcome_in er ∙ ap (after_checks s parameter l (lengths_with w v records) b) (sym ec ∙ checks.answer);
-    sets = ev ∙ ap (λ (z : Result Examined Refused). sets_after s parameter (lengths_with w v records) (outcome_in z)) (sym er);
-    listing = λ i q. let o : ◌≡◌ {A = ℕ} 0 1 = cc in absurd (omega arith);
-  }
+  judged-is = ap (after_checks s parameter l (lengths_with w v records) b) (sym ec)
 
-  -- they pass, and the script is judged
-  module _ (x : Script) (ec : c ≡ Ok x) where
-    pub sound_here : Sound s x
-    sound_here = sound-checked s c x checks ec
+  script-is : x ≡ script_of s
+  script-is = (passed s x ec).1
 
-    judged-is : judged s parameter x l (lengths_with w v records) b ≡ outcome_of s parameter l (lengths_with w v records) b
-    unfolding outcome_of
-    judged-is = ap (after_checks s parameter l (lengths_with w v records) b) (sym ec ∙ checks.answer)
+  answer-is : outcome_in (examined_by x.id d) ≡ outcome_of s parameter l (lengths_with w v records) b
+  answer-is = outcome-same x.id d ∙ h.answer ∙ judged-is
 
-    script-is : x ≡ script_of s
-    script-is = (passed s x (sym checks.answer ∙ ec)).1
+  -- it accepted
+  module _ (j : Judged) (e : d ≡ Ok j) where
+    holds : AcceptedWords s parameter x (record { sets = length v; records = records }) w₁ v₁ j.layout
+    holds = h.accepts j e
 
-    module _ (d : Result Judged Stopped) (w₁ v₁ : List ℕ) (h : Judges s parameter x l records b w w₁ v v₁ d) where
-      -- it accepted
-      module _ (j : Judged) (e : d ≡ Ok j) where
-        holds : AcceptedWords s parameter x (record { sets = length v; records = records }) w₁ v₁ j.layout
-        holds = h.accepts j e
+    count : j.awaits ≡ length (points (flow_code (parts_of s)) parameter j.layout.words)
+    count =
+        accepted_count s parameter l (lengths_with w v records) b x.id j.layout.blocks j.awaits j.budget
+        (sym (h.answer ∙ judged-is) ∙ ap (outcome_with x.id) e)
+        ∙ ap (λ (z : Script). length (points (flow_code (parts_of s)) parameter ((z.slots + 63) / 64))) (sym script-is)
+        ∙ ap (λ (k : ℕ). length (points (flow_code (parts_of s)) parameter k)) (sym holds.words)
 
-        count : j.awaits ≡ length (points (flow_code (parts_of s)) parameter j.layout.words)
-        count =
-            accepted_count s parameter l (lengths_with w v records) b x.id j.layout.blocks j.awaits j.budget
-            (sym (h.answer ∙ judged-is) ∙ ap (outcome_with x.id) e)
-            ∙ ap (λ (z : Script). length (points (flow_code (parts_of s)) parameter ((z.slots + 63) / 64))) (sym script-is)
-            ∙ ap (λ (k : ℕ). length (points (flow_code (parts_of s)) parameter k)) (sym holds.words)
+    few : j.awaits ≤ j.layout.awaits
+    few = omega (arith, count, points_few s parameter x sound_here j.layout.words, holds.awaits)
 
-        few : j.awaits ≤ j.layout.awaits
-        few = omega (arith, count, points_few s parameter x sound_here j.layout.words, holds.awaits)
+    pub acceptable : Acceptable j.layout j.awaits v₁
+    acceptable = record { room = holds.sets_room; few = few }
 
-        acceptable : Acceptable j.layout j.awaits v₁
-        acceptable = record { room = holds.sets_room; few = few }
+    -- the sets buffer begins with the answer
+    answer-there : ((i : ℕ) → get_or v₁ i 0 < 2 ^ 64)
+        → take (answer_words j.layout j.awaits) v₁ ≡ set_words s parameter (((parts_of s).slots + 63) / 64) j.layout.blocks
+    answer-there fit =
+        ap (λ (k : ℕ). take (answer_words j.layout k) v₁) count
+        ∙ content (flow_code (parts_of s)) parameter j.layout v₁ holds.sets_room fit
+        (points (flow_code (parts_of s)) parameter j.layout.words) holds.finished.both holds.finished.facts
+        (omega (arith, few, count))
+        ∙ ap (λ (k : ℕ). set_words s parameter k j.layout.blocks)
+        (holds.words ∙ ap (λ (k : ℕ). (k + 63) / 64) (sym sound_here.slots_are))
 
-        -- the sets buffer begins with the answer
-        answer-there : ((i : ℕ) → get_or v₁ i 0 < 2 ^ 64)
-            → take (answer_words j.layout j.awaits) v₁ ≡ set_words s parameter (((parts_of s).slots + 63) / 64) j.layout.blocks
-        answer-there fit =
-            ap (λ (k : ℕ). take (answer_words j.layout k) v₁) count
-            ∙ content (flow_code (parts_of s)) parameter j.layout v₁ holds.sets_room fit
-            (points (flow_code (parts_of s)) parameter j.layout.words) holds.finished.both holds.finished.facts
-            (omega (arith, few, count))
-            ∙ ap (λ (k : ℕ). set_words s parameter k j.layout.blocks)
-            (holds.words ∙ ap (λ (k : ℕ). (k + 63) / 64) (sym sound_here.slots_are))
+    pub accepts_on : ((i : ℕ) → get_or v₁ i 0 < 2 ^ 64) → length v₁ ≡ length v → (v₂ : List ℕ) (r : Examined) → r ≡ taken_as x.id j
+        → v₂ ≡ cut_at (answer_words j.layout j.awaits) v₁ → Examines s parameter l records b w w₁ v v₂ (Ok r)
+    accepts_on fit long v₂ r er ev =
+        let is : ◌≡◌ {A = Result Examined Refused} (Ok r) (examined_by x.id d) = ap Ok er ∙ ap (examined_by x.id) (sym e) in
+        record {
+          answer = ap outcome_in is ∙ answer-is;
+          sets = ev
+              ∙ cut-padded v₁ (set_words s parameter (((parts_of s).slots + 63) / 64) j.layout.blocks) (answer_words j.layout j.awaits) (length v)
+              (answer-inside j.layout j.awaits v₁ acceptable) long (answer-there fit)
+              ∙ ap (λ (z : Examined). sets_after s parameter (lengths_with w v records) (outcome_in (Ok z))) (sym er);
+          listing = λ z q.
+              let same : ◌≡◌ {A = Examined} (taken_as x.id j) z = cc in
+              subst (Listing s records w₁) (ap (λ (u : Examined). u.layout) same) (listing s parameter x _ w₁ v₁ j.layout holds);
+        }
 
-      -- what `finish` asks
-      pub finishing : Finishing d v₁
-      finishing = record { acceptable = acceptable }
-
-      module _ (fit : (i : ℕ) → get_or v₁ i 0 < 2 ^ 64) (long : length v₁ ≡ length v) (v₂ : List ℕ) (r : Result Examined Refused)
-          (f : Finishes x.id d v₁ v₂ r) where
-        answer-is : outcome_in r ≡ outcome_of s parameter l (lengths_with w v records) b
-        answer-is = ap outcome_in f.answer ∙ outcome-same x.id d ∙ h.answer ∙ judged-is
-
-        accepted-on : (j : Judged) → d ≡ Ok j → Examines s parameter l records b w w₁ v v₂ r
-        accepted-on j e =
-            let er : r ≡ examined_by x.id (Ok j) = f.answer ∙ ap (examined_by x.id) e in
-            record {
-              answer = answer-is;
-              sets = f.kept j e
-                  ∙ cut-padded v₁ (set_words s parameter (((parts_of s).slots + 63) / 64) j.layout.blocks) (answer_words j.layout j.awaits) (length v)
-                  (answer-inside j.layout j.awaits v₁ (acceptable j e)) long (answer-there j e fit)
-                  ∙ ap (λ (z : Result Examined Refused). sets_after s parameter (lengths_with w v records) (outcome_in z)) (sym er);
-              listing = λ z q.
-                  let same : ◌≡◌ {A = Examined} (record { id = x.id; layout = j.layout; awaits = j.awaits; budget = j.budget }) z = cc in
-                  subst (Listing s records w₁) (ap (λ (u : Examined). u.layout) same) (listing s parameter x _ w₁ v₁ j.layout (holds j e));
-            }
-
-        refused-on : (e : Stopped) → d ≡ Err e → Examines s parameter l records b w w₁ v v₂ r
-        refused-on e q =
-            let er : r ≡ turned_away e.why x.id e.budget = f.answer ∙ ap (examined_by x.id) q in
-            record {
-              answer = answer-is;
-              sets = f.cleared e q ∙ ap (λ (n : ℕ). replicate n 0) long
-                  ∙ ap (λ (z : Result Examined Refused). sets_after s parameter (lengths_with w v records) (outcome_in z)) (sym er);
-              listing = λ i p. let o : ◌≡◌ {A = ℕ} 0 1 = cc in absurd (omega arith);
-            }
-
-        pub examines_on : Examines s parameter l records b w w₁ v v₂ r
-        examines_on = go d refl
-          where
-            go : (i : Result Judged Stopped) → d ≡ i → Examines s parameter l records b w w₁ v v₂ r
-            go (Ok j) e = accepted-on j e
-            go (Err e) q = refused-on e q
+  -- it refused
+  pub refuses_on : (e : Stopped) → d ≡ Err e → length v₁ ≡ length v → (v₂ : List ℕ) (r : Refused) → r ≡ turned_away e.why x.id e.budget → v₂ ≡ zeros v₁
+      → Examines s parameter l records b w w₁ v v₂ (Err r)
+  refuses_on e q long v₂ r er ev =
+      let is : ◌≡◌ {A = Result Examined Refused} (Err r) (examined_by x.id d) = ap Err er ∙ ap (examined_by x.id) (sym q) in
+      record {
+        answer = ap outcome_in is ∙ answer-is;
+        sets = ev ∙ ap (λ (n : ℕ). replicate n 0) long
+            ∙ ap (λ (z : Refused). sets_after s parameter (lengths_with w v records) (outcome_in (Err z))) (sym er);
+        listing = λ i p. let o : ◌≡◌ {A = ℕ} 0 1 = cc in absurd (omega arith);
+      }
 
 -- the judging, with the limits as they count
 pub judges_counted : {s : List ℕ} {parameter : ℕ → Bool} {x : Script} {l k : Limits} {records : ℕ} {b : FlowBudget} {w w' v v' : List ℕ} {j : Result Judged Stopped}

@@ -37,7 +37,14 @@ module _ {code : List Instruction} {m : Mem} {c : ℕ} (h : BlockWords code m c)
 
 pub listing : (s : List ℕ) (parameter : ℕ → Bool) (x : Script) (lent : Lent) (w v : List ℕ) (y : Layout) → AcceptedWords s parameter x lent w v y → Listing s lent.records w y
 listing s parameter x lent w v y a = record {
-  room = a.room;
+  bounded = record {
+    instructions = a.room.instructions;
+    blocks = a.room.blocks;
+    words = a.room.words;
+    awaits = a.sets_room.awaits;
+    extra = a.room.extra;
+  };
+  fits = a.room.fits;
   lent = a.records;
   record_is = λ c lt. record-there (a.finished.block c lt).words (a.finished.flows.reached c lt);
 }

@@ -1,2 +1,5 @@
 -- Laws of the call.
-pub mod VerifyLaws
+pub mod CallLaws
+pub mod WordLaws
+pub mod Bounds
+pub mod BlockLaws

@@ -1,79 +1,108 @@
-// The call that checks a sheet: `verify` of flow.rs, with the sheet checks before it, on lent words.
+// The call that checks a sheet: `verify` of flow.rs, with the sheet checks before it. Its block list is a slice of words or of block structs.
 #![tactic(auto)]
 
-ghost use Rattle.std.specs.Prelude.{◌≡◌, length, replicate};
-ghost use Rattle.answers.specs.Answers.{answer_within};
-ghost use Rattle.flow.specs.Verify.{WordsVerified};
-ghost use Rattle.flow.specs.Within.{WordsVerifiedWithin};
-ghost use Rattle.flow.specs.With.{WordsVerifiedWith};
+ghost use Rattle.std.specs.Prelude.{◌≡◌, ◌≤◌, length, MatchOption};
+ghost use Rattle.dataflow.specs.Lists.{tabulate};
+ghost use Rattle.budget.specs.Budget.{todays, counted};
+ghost use Rattle.sizes.specs.Sizes.{scratch_words};
+ghost use Rattle.memory.specs.Buffer.{Lends};
+ghost use Rattle.memory.specs.Scratch.{scratch};
+ghost use Rattle.answers.specs.Answers.{outcome_by};
+ghost use Rattle.flow.specs.Call.{Own, With, Called};
 
 use answers::{Answer, AnswerWithin};
+use blocklist::Listed;
 use budget::{FlowBudget, Limits};
-use examine::{Examined, Refused, clear};
+use memory::buffer::Buffer;
+use memory::scratch::Scratch;
+use run::Run;
+use run::terms::Terms;
+use std::marker::Brand;
+use std::mem;
 
-// Any bytes, any budget, any buffers. `blocks` takes six words a block record: start, end, reachable, successor count, two successors; `sets` takes
-// both sets of each block and the set of each reached await; `scratch` is zero at the end. After a refusal all three are zero.
-pub fn verify(
+// Any bytes, any budget, any buffers. `blocks` takes the block records; `sets` takes both sets of each block and the set of each reached await;
+// `scratch` is zero at the end. After a refusal all three are zero.
+pub fn verify<T: Listed>(
     sheet: &[u8],
     budget: FlowBudget,
-    blocks: &mut [u64],
+    blocks: &mut [T],
     sets: &mut [u64],
     scratch: &mut [u64],
 ) -> Answer
-    ensures { WordsVerified sheet.now budget blocks.old blocks.new sets.old sets.new scratch.old scratch.new result }
+    ensures { Called T.PER_RECORD T.listed sheet.now (Own sheet.now todays budget) blocks.old blocks.new sets.old sets.new scratch.old scratch.new
+        (outcome_by result) }
 {
-    let e = answers::examined(sheet, scratch, sets, blocks.len() / 6, budget);
-    blocklist::fill(blocks, scratch, answers::layout_of(e));
-    clear::clear(scratch);
-    answers::answer_of(e)
+    call(sheet, None, budget, Limits::todays(), blocks, sets, scratch).answer
 }
 
 // The same with these limits, each of which counts as at most today's. They come back as they were given.
-pub fn verify_within(
+pub fn verify_within<T: Listed>(
     sheet: &[u8],
     budget: FlowBudget,
     limits: Limits,
-    blocks: &mut [u64],
+    blocks: &mut [T],
     sets: &mut [u64],
     scratch: &mut [u64],
 ) -> AnswerWithin
-    ensures { WordsVerifiedWithin sheet.now limits budget blocks.old blocks.new sets.old sets.new scratch.old scratch.new result }
+    ensures called { Called T.PER_RECORD T.listed sheet.now (Own sheet.now (counted limits) budget) blocks.old blocks.new sets.old sets.new scratch.old scratch.new
+        (outcome_by result.answer) }
+    ensures limits { result.limits ≡ limits }
 {
-    let e = answers::examined_within(sheet, limits, scratch, sets, blocks.len() / 6, budget);
-    blocklist::fill(blocks, scratch, answers::layout_of(e));
-    finish(scratch, e, limits)
+    call(sheet, None, budget, limits, blocks, sets, scratch)
 }
 
 // The same with the slots of `added` as parameters beside the sheet's own: a set of slots in w words, bit i % 64 of word i / 64 being slot i. Fewer words
 // are 10, judged with scratch below four words an instruction; then a bit of these words that is no slot is 7. `added` is only read.
-pub fn verify_with(
+pub fn verify_with<T: Listed>(
     sheet: &[u8],
     added: &[u64],
     budget: FlowBudget,
     limits: Limits,
-    blocks: &mut [u64],
+    blocks: &mut [T],
     sets: &mut [u64],
     scratch: &mut [u64],
 ) -> AnswerWithin
-    ensures { WordsVerifiedWith sheet.now added.now limits budget blocks.old blocks.new sets.old sets.new scratch.old scratch.new result }
+    ensures called { Called T.PER_RECORD T.listed sheet.now (With sheet.now added.now (counted limits) budget) blocks.old blocks.new sets.old sets.new scratch.old
+        scratch.new (outcome_by result.answer) }
+    ensures limits { result.limits ≡ limits }
 {
-    let e = added::examine_with(
-        sheet,
-        added,
-        limits,
-        scratch,
-        sets,
-        blocks.len() / 6,
-        budget,
-    );
-    blocklist::fill(blocks, scratch, answers::layout_of(e));
-    finish(scratch, e, limits)
+    call(sheet, Some(added), budget, limits, blocks, sets, scratch)
 }
 
-// The answer with the limits as they were given; scratch is cleared.
-fn finish(s: &mut [u64], e: Result<Examined, Refused>, limits: Limits) -> AnswerWithin
-    ensures { (result ≡ answer_within e limits) × (s.new ≡ replicate (length s.old) 0) }
+// The sheet examined, the block list filled from scratch, and scratch cleared.
+fn call<T: Listed>(
+    sheet: &[u8],
+    added: Option<&[u64]>,
+    budget: FlowBudget,
+    limits: Limits,
+    blocks: &mut [T],
+    sets: &mut [u64],
+    scratch: &mut [u64],
+) -> AnswerWithin
+    ensures called { MatchOption added.entry
+        (Called T.PER_RECORD T.listed sheet.now (Own sheet.now (counted limits) budget) blocks.old blocks.new sets.old sets.new scratch.old scratch.new (outcome_by result.answer))
+        (λ set. Called T.PER_RECORD T.listed sheet.now (With sheet.now set.now (counted limits) budget) blocks.old blocks.new sets.old sets.new scratch.old scratch.new (outcome_by result.answer)) }
+    ensures limits { result.limits ≡ limits }
 {
-    clear::clear(s);
-    answers::answer_within(e, limits)
+    let records = blocks.len() / T::PER_RECORD;
+    let examined = added::examine(sheet, added, limits, budget, scratch, sets, records);
+    let layout = answers::layout_of(examined);
+    let mut lent = Buffer {
+        words: &mut *scratch,
+    };
+    list::<T, Brand>(blocks, &mut lent, Terms { layout });
+    scratch.fill(0);
+    let answer = answers::answer_of(examined);
+    AnswerWithin { answer, limits }
+}
+
+// The block list, from the words of scratch as they have this layout.
+fn list<T: Listed, R: Run>(blocks: &mut [T], lent: &mut Buffer<'_>, terms: Terms)
+    requires { (terms.layout ≡ R.layout) × Lends R.scratch lent.old.words × (scratch_words terms.layout ≤ length lent.old.words.now) }
+    ensures listed { blocks.new ≡ tabulate 0 (length blocks.old) (T.listed (scratch terms.layout lent.old.words.now) terms.layout.blocks) }
+    ensures lent { Lends R.scratch lent.new.words }
+{
+    let s = Scratch::<R>::new(mem::take(&mut lent.words), terms);
+    blocklist::fill(blocks, &s);
+    lent.words = s.into_words();
 }

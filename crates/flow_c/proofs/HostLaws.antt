@@ -36,9 +36,9 @@ use Rattle.block_records.specs.declared.Block.{Block}
 use Rattle.added.specs.Outcome.{VerifiedWith}
 use Rattle.answers.specs.declared.AnswerWithin.{AnswerWithin}
 use Rattle.answers.specs.Answers.{Answer, outcome_by, Verified}
-use Rattle.flow_blocks.specs.BlocksVerify.{blocks_after, lengths_of, BlocksVerified}
-use Rattle.flow_blocks.specs.Within.{BlocksVerifiedUnder, BlocksVerifiedWithin}
-use Rattle.flow_blocks.specs.With.{BlocksVerifiedWith}
+use Rattle.flow.specs.BlocksVerify.{blocks_after, lengths_of, BlocksVerified}
+use Rattle.flow.specs.BlocksWithin.{BlocksVerifiedUnder, BlocksVerifiedWithin}
+use Rattle.flow.specs.BlocksWith.{BlocksVerifiedWith}
 use Rattle.flow_c.specs.declared.HostLimits.{HostLimits}
 use Rattle.flow_c.specs.declared.FlowAnswer.{FlowAnswer}
 use Rattle.flow_c.specs.declared.FlowAnswerWithin.{FlowAnswerWithin}

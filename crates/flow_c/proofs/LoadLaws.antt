@@ -30,7 +30,7 @@ use Rattle.demands.specs.Table as table
 use Rattle.demands.specs.Table.{Due, layout, bad_sheet, no_room_early, no_room, state_limit, work_counting, work_building, work_solving, work_checking, unfilled_slot, host_over_await, facts_limit, acceptance}
 use Rattle.demands.proofs.TableLaws as tables
 use Rattle.block_records.specs.declared.Block.{Block}
-use Rattle.flow_blocks.specs.BlocksVerify.{lengths_of}
+use Rattle.flow.specs.BlocksVerify.{lengths_of}
 use Rattle.sheet.specs.declared.script.Refused.{Refused}
 use Rattle.load.specs.declared.Loaded.{Loaded}
 use Rattle.load.specs.Load.{words_needed, saturated, load_of, loaded_by, loaded_of}

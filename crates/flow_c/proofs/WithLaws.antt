@@ -29,7 +29,7 @@ use Rattle.added.proofs.OutcomeLaws.{zeros_sets, zeros_outcome}
 use Rattle.added.proofs.GrowLaws.{added_filled, added_held}
 use Rattle.answers.specs.Answers.{Verified}
 use Rattle.answers.proofs.AnswerLaws.{own-slots}
-use Rattle.flow_blocks.specs.BlocksVerify.{blocks_after, lengths_of}
+use Rattle.flow.specs.BlocksVerify.{blocks_after, lengths_of}
 use Rattle.flow_c.specs.declared.HostLimits.{HostLimits}
 use Rattle.flow_c.specs.declared.FlowAnswer.{FlowAnswer}
 use Rattle.flow_c.specs.declared.FlowAnswerWithin.{FlowAnswerWithin}

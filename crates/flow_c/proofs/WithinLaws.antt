@@ -13,7 +13,7 @@ use Rattle.demands.specs.Demands.{IsAccepted}
 use Rattle.block_records.specs.declared.Block.{Block}
 use Rattle.answers.specs.Answers.{Verified}
 use Rattle.answers.proofs.LimitLaws.{counted-above, counted-monotone, same_answer, same_sets, same_scratch}
-use Rattle.flow_blocks.specs.BlocksVerify.{blocks_after, lengths_of}
+use Rattle.flow.specs.BlocksVerify.{blocks_after, lengths_of}
 use Rattle.flow_c.specs.declared.HostLimits.{HostLimits}
 use Rattle.flow_c.specs.declared.FlowAnswer.{FlowAnswer}
 use Rattle.flow_c.specs.declared.FlowAnswerWithin.{FlowAnswerWithin}

@@ -12,7 +12,7 @@ use Rattle.sheet.specs.declared.script.Refused.{Refused}
 use Rattle.load.specs.declared.Loaded.{Loaded}
 use Rattle.load.specs.Load.{loaded_of}
 use Rattle.answers.specs.Answers.{Verified}
-use Rattle.flow_blocks.specs.BlocksVerify.{blocks_after, lengths_of}
+use Rattle.flow.specs.BlocksVerify.{blocks_after, lengths_of}
 use Rattle.flow_c.specs.declared.HostBudget.{HostBudget}
 use Rattle.flow_c.specs.declared.FlowAnswer.{FlowAnswer}
 use Rattle.flow_c.specs.declared.LoadAnswer.{LoadAnswer}

@@ -5,7 +5,7 @@ use Rattle.budget.specs.Budget.{counted}
 use Rattle.outcome.specs.Outcome.{Outcome}
 use Rattle.block_records.specs.declared.Block.{Block}
 use Rattle.added.specs.Outcome.{outcome_with, DueWith, VerifiedWith}
-use Rattle.flow_blocks.specs.BlocksVerify.{blocks_after, lengths_of}
+use Rattle.flow.specs.BlocksVerify.{blocks_after, lengths_of}
 use Rattle.flow_c.specs.declared.HostLimits.{HostLimits}
 use Rattle.flow_c.specs.declared.FlowAnswerWithin.{FlowAnswerWithin}
 use Rattle.flow_c.specs.Exports.{answer_of}

@@ -10,7 +10,7 @@ use Rattle.demands.specs.Table.{Due}
 use Rattle.block_records.specs.declared.Block.{Block}
 use Rattle.answers.specs.declared.AnswerWithin.{AnswerWithin}
 use Rattle.answers.specs.Answers.{outcome_by, Verified}
-use Rattle.flow_blocks.specs.BlocksVerify.{blocks_after, lengths_of}
+use Rattle.flow.specs.BlocksVerify.{blocks_after, lengths_of}
 use Rattle.flow_c.specs.declared.HostLimits.{HostLimits}
 use Rattle.flow_c.specs.declared.FlowAnswer.{FlowAnswer}
 use Rattle.flow_c.specs.declared.FlowAnswerWithin.{FlowAnswerWithin}

@@ -15,6 +15,8 @@ use format::refusal::Refusal;
 use load::Loaded;
 use sheet::script::Refused;
 
+// C's forms, here and below: plain numbers, and a number beside zeros where the code has a `Result`.
+
 // Work charged and bytes retained so far.
 #[repr(C)]
 #[derive(Clone, Copy, PartialEq, Eq, Debug)]
@@ -85,7 +87,7 @@ fn number(why: Refusal) -> u32
     why.number() as u32
 }
 
-// Any bytes, any budget, any buffers: as `verify` of crate flow_blocks.
+// Any bytes, any budget, any buffers: as `verify` of crate flow.
 #[unsafe(no_mangle)]
 pub extern "C" fn kagari_flow_verify(
     sheet: &[u8],
@@ -96,7 +98,7 @@ pub extern "C" fn kagari_flow_verify(
 ) -> FlowAnswer
     ensures { HostVerified sheet.now (budget_of budget) blocks.old blocks.new sets.old sets.new scratch.old scratch.new result }
 {
-    flow_blocks::verify(sheet, budget.into(), blocks, sets, scratch).into()
+    flow::verify(sheet, budget.into(), blocks, sets, scratch).into()
 }
 
 // Number 0 and the load. Else the number of the refusal, and load 0.
@@ -204,7 +206,7 @@ impl From<AnswerWithin> for FlowAnswerWithin {
     }
 }
 
-// As `kagari_flow_verify` with these limits, each of which counts as at most today's: as `verify_within` of crate flow_blocks.
+// As `kagari_flow_verify` with these limits, each of which counts as at most today's: as `verify_within` of crate flow.
 #[unsafe(no_mangle)]
 pub extern "C" fn kagari_flow_verify_within(
     sheet: &[u8],
@@ -216,10 +218,10 @@ pub extern "C" fn kagari_flow_verify_within(
 ) -> FlowAnswerWithin
     ensures { HostVerifiedWithin sheet.now limits (budget_of budget) blocks.old blocks.new sets.old sets.new scratch.old scratch.new result }
 {
-    flow_blocks::verify_within(sheet, budget.into(), limits.into(), blocks, sets, scratch).into()
+    flow::verify_within(sheet, budget.into(), limits.into(), blocks, sets, scratch).into()
 }
 
-// The same with an added set of parameters: as `verify_with` of crate flow_blocks.
+// The same with an added set of parameters: as `verify_with` of crate flow.
 #[unsafe(no_mangle)]
 pub extern "C" fn kagari_flow_verify_with(
     sheet: &[u8],
@@ -232,7 +234,7 @@ pub extern "C" fn kagari_flow_verify_with(
 ) -> FlowAnswerWithin
     ensures { HostVerifiedWith sheet.now added.now limits (budget_of budget) blocks.old blocks.new sets.old sets.new scratch.old scratch.new result }
 {
-    flow_blocks::verify_with(
+    flow::verify_with(
         sheet,
         added,
         budget.into(),

@@ -49,7 +49,7 @@ impl<R: Print> Printer<'_, R> {
         if sheet.len() > MOST_BYTES {
             return self.refuse(Refusal::NoRoom, 0);
         }
-        let mut blocks = [0; 6 * 256];
+        let mut blocks = [0u64; 6 * 256];
         let mut sets = [0; 1024];
         let mut scratch = [0; 4096];
         let budget = FlowBudget {

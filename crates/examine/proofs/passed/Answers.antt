@@ -1,29 +1,22 @@
 -- `examine::passed` meets its contract. Assumes nothing.
-use Rattle.std.proofs.Common.{refl, arith, rules}
-use Rattle.budget.specs.Budget.{counted}
+use Rattle.std.proofs.Common.{arith, rules}
 use Rattle.budget.proofs.LimitLaws.{counted-below}
-use Rattle.sheet.specs.Decode.{parts_of}
-use Rattle.starts.specs.Starts.{parameter_with}
-use Rattle.examine.proofs.ExamineLaws.{sound_here, finishing, examines_on, judges_counted}
+use Rattle.examine.proofs.ExamineLaws.{acceptable, accepts_on, refuses_on, judges_counted}
 use Rattle.examine.proofs.passed.Goals as goal
 
-pub judge-j-requires : goal.judge-j-requires
-judge-j-requires c =
-    let a = c.args in (
-      sound_here a.sheet.now (parameter_with (parts_of a.sheet.now) a.added.now) (counted a.limits) a.records a.budget a.s.now
-          a.t.now _ c.requires _ refl,
-      counted-below a.limits _ c.counted-l.ensures,
-    )
+pub judge-requires : goal.judge-requires
+judge-requires c = counted-below c.args.limits _ c.counted.ensures
 
-pub finish-requires : goal.finish-requires
-finish-requires c =
-    let a = c.args in
-    finishing a.sheet.now (parameter_with (parts_of a.sheet.now) a.added.now) (counted a.limits) a.records a.budget a.s.now
-    a.t.now _ c.requires _ refl _ _ _ (judges_counted c.counted-l.ensures c.judge-j.ensures)
+pub accept-requires : goal.accept-requires
+accept-requires c =
+    acceptable _ _ _ _ _ _ _ _ c.args.sheet.now.passed _ _ _ (judges_counted c.counted.ensures c.judge.ensures) _ c.in-Ok.is
 
-pub returns : goal.returns
-returns c =
-    let a = c.args in
-    examines_on a.sheet.now (parameter_with (parts_of a.sheet.now) a.added.now) (counted a.limits) a.records a.budget a.s.now
-    a.t.now _ c.requires _ refl _ _ _ (judges_counted c.counted-l.ensures c.judge-j.ensures) (search rules)
-    (omega (arith, c.judge-j.auto.s)) _ _ c.finish.ensures
+pub returns-in-Ok : goal.returns-in-Ok
+returns-in-Ok c =
+    accepts_on _ _ _ _ _ _ _ _ c.args.sheet.now.passed _ _ _ (judges_counted c.counted.ensures c.judge.ensures) _ c.in-Ok.is (search rules)
+    (omega (arith, c.judge.auto.t)) _ _ c.accept.ensures.answer c.accept.ensures.kept
+
+pub returns-in-Err : goal.returns-in-Err
+returns-in-Err c =
+    refuses_on _ _ _ _ _ _ _ _ c.args.sheet.now.passed _ _ _ (judges_counted c.counted.ensures c.judge.ensures) _ c.in-Err.is
+    (omega (arith, c.judge.auto.t)) _ _ c.refuse.ensures.answer c.refuse.ensures.cleared

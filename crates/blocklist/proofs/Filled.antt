@@ -1,4 +1,4 @@
--- The block list while it is filled: its first i records, and the rest as it was. Assumes nothing.
+-- A list while it is filled: its first i elements, and the rest as it was. Assumes nothing.
 use mathlib.Core.Path.{◌≡◌, refl, sym, ap, ◌∙◌}
 use mathlib.Core.List.{List, [], ◌∷◌}
 use Prim.Native.Nat.{ℕ, zero, suc, ◌+◌, ◌<◌}

@@ -7,7 +7,7 @@ use Rattle.block_records.specs.declared.Block.{Block}
 use Rattle.added.specs.Outcome.{VerifiedWith}
 use Rattle.answers.specs.declared.AnswerWithin.{AnswerWithin}
 use Rattle.answers.specs.Answers.{outcome_by}
-use Rattle.flow_blocks.specs.BlocksVerify.{blocks_after, lengths_of}
+use Rattle.flow.specs.BlocksVerify.{blocks_after, lengths_of}
 
 -- What `verify_with` does with a sheet s, an added set of slots, the limits l, a budget b, the block list, and the words of the sets buffer and of scratch
 -- (primed: at exit).

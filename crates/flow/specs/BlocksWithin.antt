@@ -8,7 +8,7 @@ use Rattle.script.specs.Script.{parameter_in}
 use Rattle.block_records.specs.declared.Block.{Block}
 use Rattle.answers.specs.declared.AnswerWithin.{AnswerWithin}
 use Rattle.answers.specs.Answers.{Answer, outcome_by, Verified}
-use Rattle.flow_blocks.specs.BlocksVerify.{blocks_after, lengths_of}
+use Rattle.flow.specs.BlocksVerify.{blocks_after, lengths_of}
 
 -- What `BlocksVerified` says, under the limits l as they count in the place of today's.
 pub record BlocksVerifiedUnder (s : List ℕ) (l : Limits) (b : FlowBudget) (list list' : List Block) (v v' w w' : List ℕ) (r : Answer) : Type 0 where

@@ -1,0 +1,10 @@
+-- `added::examine` meets its contract. Assumes nothing.
+use Rattle.std.proofs.Common.{refl}
+use Rattle.added.proofs.ExamineLaws.{refuses, passes}
+use Rattle.added.proofs.examine.Goals as goal
+
+pub returns-in-Err : goal.returns-in-Err
+returns-in-Err c = refuses _ _ _ _ _ _ _ _ c.args.added _ _ c.in-Err.ensures c.refuse.ensures.answer c.refuse.ensures.cleared
+
+pub returns-in-Ok : goal.returns-in-Ok
+returns-in-Ok c = passes _ _ _ _ _ _ _ _ _ c.args.added _ _ _ _ c.in-Ok.ensures refl c.unwrap_or.ensures c.passed.ensures

@@ -1,3 +1,0 @@
--- Laws of the call with block structs.
-pub mod Bounds
-pub mod BlockLaws
