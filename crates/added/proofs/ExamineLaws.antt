@@ -15,7 +15,7 @@ use Rattle.dataflow.specs.Lists.{pick}
 use Rattle.budget.specs.declared.FlowBudget.{FlowBudget}
 use Rattle.budget.specs.declared.Limits.{Limits}
 use Rattle.format.specs.declared.refusal.Refusal.TheVariants.{NoSuchSlot, NoRoom}
-use Rattle.format.proofs.Or.{or_none}
+use Rattle.std.proofs.lemmas.Bool.{or_parts}
 use Rattle.sheet.specs.declared.script.Script.{Script}
 use Rattle.sheet.specs.declared.script.Refused as sheets
 use Rattle.sheet.specs.Decode.{parts_of}
@@ -38,7 +38,7 @@ use Rattle.added.proofs.OutcomeLaws.{taken_outcome}
 
 -- neither of two lengths is too short
 second_long : (a b c d : ℕ) → (ltb a b || ltb c d) ≡ false → d ≤ c
-second_long a b c d e = ltb-false c d (or_none (ltb a b) (ltb c d) e).1
+second_long a b c d e = ltb-false c d (or_parts (ltb a b) (ltb c d) e).1
 
 -- ---- what the test of a set says
 

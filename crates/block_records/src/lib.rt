@@ -10,6 +10,7 @@ use memory::scratch::Scratch;
 use run::Run;
 
 // A block: where it begins and ends, whether a path reaches it (0 or 1), how many successors it has, and which blocks they are, unused ones 0.
+// It is C's form, so that all is a number; behind the last block stand records of zeros.
 #[repr(C)]
 #[derive(Clone, Copy, PartialEq, Eq, Debug, Default)]
 pub struct Block {
@@ -58,7 +59,7 @@ fn block_at<R: Run>(s: &Scratch<'_, R>, i: usize) -> Block
     }
 }
 
-// A word cut to 32 bits.
+// A word cut to 32 bits: the remainder is what a proof hears of, where `as` alone says less.
 fn cut(word: u64) -> u32
     ensures { result ≡ word % 2 ^ 32 }
 {

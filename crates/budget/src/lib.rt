@@ -89,7 +89,8 @@ impl FlowBudget {
     }
 }
 
-// The bytes of state that so many blocks with sets of so many words stand for: `state_bytes` of flow.rs.
+// The bytes of state that so many blocks with sets of so many words stand for: `state_bytes` of flow.rs. These two take plain numbers, below the layout
+// that bounds them.
 pub fn state_bytes(blocks: usize, words: usize) -> u64
     requires { (blocks ≤ 65536) × (words ≤ 1024) }
     ensures { result ≡ state_bytes blocks words }

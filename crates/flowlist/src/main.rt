@@ -133,7 +133,7 @@ fn load_of(sheet: &[u8], sets: &[u64], blocks: usize, awaits: usize) -> u64 {
     load::load(sheet, sets, blocks, awaits).map_or(0, |loaded| loaded.load)
 }
 
-// The words of a set, by the slot count in the function record.
+// The words of a set, by the slot count in the function record. A sheet that was accepted has that record, so 0 is never shown.
 fn width(sheet: &[u8]) -> usize
     ensures { result ≤ 2 ^ 26 }
 {

@@ -15,7 +15,7 @@ use Rattle.operands.specs.Choice.{pick}
 use Rattle.operands.specs.Places.{absent}
 use Rattle.operands.specs.Patterns.{Sopt, Dopt, T, M, L, role_at, fixed_at, list_at, fits}
 use Rattle.operands.proofs.PatternLaws.{role_late, fixed-there}
-use Rattle.format.proofs.Or.{or_none}
+use Rattle.std.proofs.lemmas.Bool.{or_parts}
 use Rattle.format.specs.Fields.{optional, names_slot, bad_module, no_slot, no_target, any_field, any_above}
 use Rattle.format.specs.Answers.{bound_of, Faultless, no_faults, FaultsIn}
 
@@ -59,8 +59,8 @@ of_list slots n x h = below_bound slots n L x h
 all-below : (bound : ℕ) (v : List ℕ) → any_above bound v ≡ false → (i : ℕ) → i < length v → get_or v i 0 < bound
 unfolding any_above
 all-below bound [] e i h = absurd (omega arith)
-all-below bound (x ∷ v) e zero h = leb-false bound x (or_none (leb bound x) (any_above bound v) e).0
-all-below bound (x ∷ v) e (suc i) h = all-below bound v (or_none (leb bound x) (any_above bound v) e).1 i (omega arith)
+all-below bound (x ∷ v) e zero h = leb-false bound x (or_parts (leb bound x) (any_above bound v) e).0
+all-below bound (x ∷ v) e (suc i) h = all-below bound v (or_parts (leb bound x) (any_above bound v) e).1 i (omega arith)
 
 -- a test that holds at none of the fields
 none_of : (f : ℕ → ℕ → Bool) (k j : ℕ) (v : List ℕ) → ((i : ℕ) → i < length v → f (role_at k (j + i)) (get_or v i 0) ≡ false)

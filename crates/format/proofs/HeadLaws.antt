@@ -8,7 +8,7 @@ use borrow.Author.Tests.{le-ltb, ltb-false}
 use lib.Dec.{ltb}
 use lib.ListN.{length}
 use Rattle.format.specs.Heads.{u16_at, end_at, short}
-use Rattle.format.proofs.Or.{or_none}
+use Rattle.std.proofs.lemmas.Bool.{or_parts}
 
 pub not_short : (s : List ℕ) (at : ℕ) → at + 4 ≤ length s → 2 ≤ u16_at s at → end_at s at ≤ length s → short s at ≡ false
 unfolding short
@@ -22,6 +22,6 @@ pub record Within (s : List ℕ) (at : ℕ) : Type 0 where
 pub lies : (s : List ℕ) (at : ℕ) → short s at ≡ false → Within s at
 unfolding short
 lies s at e =
-    let a = or_none (ltb (length s) (at + 4)) _ e in
-    let b = or_none (ltb (u16_at s at) 2) (ltb (length s) (end_at s at)) a.1 in
+    let a = or_parts (ltb (length s) (at + 4)) _ e in
+    let b = or_parts (ltb (u16_at s at) 2) (ltb (length s) (end_at s at)) a.1 in
     record { ordered = omega (arith, ltb-false (u16_at s at) 2 b.0); within = ltb-false _ _ b.1 }

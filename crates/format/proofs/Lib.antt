@@ -1,5 +1,4 @@
 -- Laws of the definitions: one for each way through the code, and what is read in a body.
-pub mod Or
 pub mod HeadLaws
 pub mod FieldLaws
 pub mod FitLaws

@@ -20,7 +20,7 @@ use Rattle.operands.proofs.PlaceLaws.{singles-more}
 use Rattle.operands.proofs.OperandLaws.{inputs_two, targets_single}
 use Rattle.operands.proofs.Agree.{output-agree}
 use Rattle.format.specs.Fields.{no_slot, no_target, any_field}
-use Rattle.format.proofs.Or.{or_none}
+use Rattle.std.proofs.lemmas.Bool.{or_parts}
 use Rattle.bitset.specs.Below.{AllBelow}
 use Rattle.bitset.proofs.Below.{below-append, below_all}
 
@@ -35,10 +35,10 @@ unfolding any_field
 no_field f k j [] e i h = absurd (omega arith)
 no_field f k j (x ∷ v) e zero h =
     let q : j + 0 ≡ j = omega arith in
-    rw q (or_none (f (role_at k j) x) (any_field f k (j + 1) v) e).0
+    rw q (or_parts (f (role_at k j) x) (any_field f k (j + 1) v) e).0
 no_field f k j (x ∷ v) e (suc i) h =
     let q : j + suc i ≡ j + 1 + i = omega arith in
-    rw q (no_field f k (j + 1) v (or_none (f (role_at k j) x) (any_field f k (j + 1) v) e).1 i (omega arith))
+    rw q (no_field f k (j + 1) v (or_parts (f (role_at k j) x) (any_field f k (j + 1) v) e).1 i (omega arith))
 
 pub no_field_at : (f : ℕ → ℕ → Bool) (k : ℕ) (v : List ℕ) → any_field f k 0 v ≡ false → (i : ℕ) → i < length v → f (role_at k i) (get_or v i absent)
     ≡ false

@@ -17,7 +17,7 @@ use Rattle.format.specs.Refusals.{due, or_else}
 use Rattle.format.specs.Heads.{short, kind_at, end_at, body_length, fields_at}
 use Rattle.format.specs.Types.{whole_type, ends_with}
 use Rattle.format.specs.Fields.{bad_module, no_slot, no_target, any_field, any_above}
-use Rattle.format.proofs.Or.{or_none}
+use Rattle.std.proofs.lemmas.Bool.{or_parts}
 use Rattle.records.specs.Records.{function_fault, parameter_slots_fault, repeat_fault, parameters_fault, bad_slot, slot_fault, bad_instruction, instruction_fault}
 
 -- a test on the way did not hold
@@ -30,7 +30,7 @@ pub none_above : (n : ℕ) (l : List ℕ) → any_above n l ≡ false → AllBel
 unfolding any_above
 none_above n [] e = tt
 none_above n (x ∷ l) e =
-    let a = or_none (leb n x) (any_above n l) e in
+    let a = or_parts (leb n x) (any_above n l) e in
     (leb-false n x a.0, none_above n l a.1)
 
 pub record FunctionPassed (s : List ℕ) (at : ℕ) : Type 0 where
@@ -91,8 +91,8 @@ slot-passed s at e =
     let b = none-due _ WrongKind _ a.1 in
     let c = none-due _ BadBody _ b.1 in
     let t = not (ends_with (end_at s at) (whole_type s (end_at s at) (at + 4 + 1))) in
-    let f = or_none (leb (end_at s at) (at + 4)) (ltb 12 (get_or s (at + 4) 0) || t) c.0 in
-    let g = or_none (ltb 12 (get_or s (at + 4) 0)) t f.1 in
+    let f = or_parts (leb (end_at s at) (at + 4)) (ltb 12 (get_or s (at + 4) 0) || t) c.0 in
+    let g = or_parts (ltb 12 (get_or s (at + 4) 0)) t f.1 in
     record {
       whole = a.0;
       kind = eqb-true _ _ (not-false _ b.0);
@@ -119,8 +119,8 @@ instruction-passed s slots n at e =
     let d = none-due _ NoSuchSlot _ c.1 in
     let f = none-due _ NoSuchTarget _ d.1 in
     let k = (and-eq-true_iff (leb 1 (kind_at s at)) (leb (kind_at s at) 41)).0 (not-false _ b.0) in
-    let x = or_none _ _ c.0 in
-    let y = or_none _ _ x.1 in
+    let x = or_parts _ _ c.0 in
+    let y = or_parts _ _ x.1 in
     record {
       whole = a.0;
       low = leb-true _ _ k.0;

@@ -15,7 +15,7 @@ use Rattle.format.specs.declared.refusal.Refusal.TheVariants.{LeftOver, TooMany,
 use Rattle.format.specs.Refusals.{due}
 use Rattle.format.specs.Heads.{kind_at, end_at}
 use Rattle.records.specs.Records.{function_fault, parameters_fault}
-use Rattle.format.proofs.Or.{or_none}
+use Rattle.std.proofs.lemmas.Bool.{or_parts}
 use Rattle.records.proofs.Passed.{none-due, neither, parameters-passed}
 use Rattle.format.proofs.HeadLaws.{lies}
 use Rattle.sheet.specs.declared.script.Script.{Script}
@@ -75,7 +75,7 @@ pub sized : (s : List ℕ) → Clean s → Sized s
 unfolding sizes_fault
 sized s c =
     let a = none-due (ltb 65536 (slots_in s) || ltb 65536 (count_in s)) TooMany (due (eqb (count_in s) 0) NoCode none) c.sizes_ok in
-    let b = or_none (ltb 65536 (slots_in s)) (ltb 65536 (count_in s)) a.0 in
+    let b = or_parts (ltb 65536 (slots_in s)) (ltb 65536 (count_in s)) a.0 in
     let d = ends-well s c.end_ok in
     record {
       few_slots = ltb-false _ _ b.0;

@@ -1,7 +1,8 @@
 // What is known of a sheet after the checks.
 use format::refusal::Refusal;
 
-// A sheet that passed.
+// A sheet that passed. It holds offsets and counts and no slices, so that it borrows nothing: `instructions::checked::Sheet` holds the bytes beside it, and
+// what is read there is read by an offset that a loop carries on.
 #[derive(Clone, Copy, PartialEq, Eq, Debug)]
 pub struct Script {
     // the function's id, how many slots it has, and how many instructions
