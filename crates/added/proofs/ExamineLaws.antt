@@ -33,11 +33,11 @@ use Rattle.examine.specs.Examine.{outcome_in, Examines}
 use Rattle.examine.specs.Stages.{turned_away, zeros}
 use Rattle.added.specs.Added.{width_of, strays, Taken}
 use Rattle.added.specs.Outcome.{after_checks_with, outcome_with}
-use Rattle.added.specs.Examine.{if_taken, tested_sheet, ExaminesWith}
+use Rattle.added.specs.Examine.{tested_of, if_taken, tested_sheet, ExaminesWith}
 use Rattle.added.proofs.OutcomeLaws.{taken_outcome}
 
 -- neither of two lengths is too short
-second_long : (a b c d : ℕ) → (ltb a b || ltb c d) ≡ false → d ≤ c
+pub second_long : (a b c d : ℕ) → (ltb a b || ltb c d) ≡ false → d ≤ c
 second_long a b c d e = ltb-false c d (or_parts (ltb a b) (ltb c d) e).1
 
 -- ---- what the test of a set says
@@ -117,6 +117,22 @@ module _ {s : List ℕ} {l : Limits} {records : ℕ} {b : FlowBudget} {w w₁ v 
 -- a set as it is lent
 abbrev Added : Type 0
 Added = Option (Bor (List ℕ))
+
+-- what the test takes has passed the checks
+tested-checked : (added : List ℕ) (scratch : ℕ) {x : Script} (c : Result Script sheets.Refused) → tested_sheet added scratch c ≡ Ok x → c ≡ Ok x
+tested-checked added scratch (Err z) q = let o : ◌≡◌ {A = ℕ} 0 1 = cc in absurd (omega arith)
+tested-checked added scratch {x} (Ok y) q = go (tested_of added y scratch) q
+  where
+    go : (t : Result (Unit {0}) sheets.Refused) → if_taken t y ≡ Ok x → ◌≡◌ {A = Result Script sheets.Refused} (Ok y) (Ok x)
+    go (Ok z) q = q
+    go (Err e) q = let o : ◌≡◌ {A = ℕ} 0 1 = cc in absurd (omega arith)
+
+pub was_checked : (s bytes : List ℕ) (scratch : ℕ) (o : Added) (x : Script)
+    → MatchOption o ((bytes ≡ s) × (checked_of s ≡ Ok x)) (λ set. (bytes ≡ s) × (tested_sheet set.now scratch (checked_of s) ≡ Ok x))
+    → checked_of bytes ≡ Ok x
+was_checked s bytes scratch None x h = subst (λ (t : List ℕ). checked_of t ≡ Ok x) (sym h.0) h.1
+was_checked s bytes scratch (Some set) x h =
+    subst (λ (t : List ℕ). checked_of t ≡ Ok x) (sym h.0) (tested-checked set.now scratch (checked_of s) h.1)
 
 abbrev Does : List ℕ → Limits → ℕ → FlowBudget → List ℕ → List ℕ → List ℕ → List ℕ → Result Examined Refused → Added → Type 0
 Does s l records b w w₁ v v' r o =

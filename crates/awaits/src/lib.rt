@@ -4,7 +4,7 @@
 pub mod slots;
 
 ghost use Rattle.std.specs.Prelude.{◌≡◌, true, ◌+◌, ◌≤◌, ◌<◌};
-ghost use Rattle.operands.specs.Kinds.{kind_number, is_await};
+ghost use Rattle.operands.specs.Kinds.{is_await};
 ghost use Rattle.dataflow.specs.Code.{await_at};
 ghost use Rattle.sheet.specs.Decode.{parts_of};
 ghost use Rattle.script.specs.Script.{flow_code};
@@ -17,7 +17,7 @@ use instructions::placed;
 use memory::names::{Cell, SlotRow};
 use memory::scratch::Scratch;
 use memory::sets::Sets;
-use operands::kind::Kind;
+use operands::kinds;
 use run::Run;
 use run::meter::Meter;
 use sizes::Stopped;
@@ -84,9 +84,17 @@ fn check_instruction<R: Run>(
     let left = meter.charge(cost)?;
     let at = s.get(Cell::Offset, pc) as usize;
     let instruction = placed::instruction_at(sheet.bytes, at).instruction();
-    slots::remove_output(s, instruction);
-    slots::insert_inputs(s, instruction.inputs());
-    check_point(s, t, sheet.script.slots, instruction.kind, pc, place, left)
+    slots::remove_output(s, SlotRow::LiveState, instruction);
+    slots::insert_inputs(s, SlotRow::LiveState, instruction.inputs());
+    check_point(
+        s,
+        t,
+        sheet.script.slots,
+        instruction.kind.number(),
+        pc,
+        place,
+        left,
+    )
 }
 
 // An instruction that is no await passes.
@@ -94,15 +102,15 @@ pub fn check_point<R: Run>(
     s: &Scratch<'_, R>,
     t: &mut Sets<'_, R>,
     slots: usize,
-    kind: Kind,
+    kind: usize,
     pc: usize,
     place: usize,
     meter: Meter<R>,
 ) -> Result<(usize, Meter<R>), Stopped>
-    requires { (is_await (kind_number kind) ≡ true → 0 < place) × (place ≤ R.layout.awaits) }
-    ensures { AwaitChecked (is_await (kind_number kind)) R.layout R.limits slots meter pc place s.now t.old t.new result }
+    requires { (is_await kind ≡ true → 0 < place) × (place ≤ R.layout.awaits) }
+    ensures { AwaitChecked (is_await kind) R.layout R.limits slots meter pc place s.now t.old t.new result }
 {
-    if kind.is_await() {
+    if kinds::is_await(kind) {
         return check_await(s, t, slots, pc, place - 1, meter);
     }
     Ok((place, meter))

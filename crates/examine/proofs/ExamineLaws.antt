@@ -13,6 +13,7 @@ use Rattle.budget.specs.declared.Limits.{Limits}
 use Rattle.sizes.specs.declared.Layout.{Layout}
 use Rattle.sizes.specs.declared.Stopped.{Stopped}
 use Rattle.sheet.specs.declared.script.Script.{Script}
+use Rattle.sheet.specs.declared.script.Refused as sheets
 use Rattle.sheet.specs.Decode.{parts_of}
 use Rattle.sheet.specs.Scripts.{script_of, checked_of}
 use Rattle.sheet.proofs.Checked.{passed}
@@ -50,11 +51,22 @@ outcome-same : (id : ℕ) (r : Result Judged Stopped) → outcome_in (examined_b
 outcome-same id (Ok j) = refl
 outcome-same id (Err e) = refl
 
+-- ---- a sheet that the checks refuse
+
+pub examines_refused : (s : List ℕ) (parameter : ℕ → Bool) (l : Limits) (records : ℕ) (b : FlowBudget) {w w₁ v v' : List ℕ} {e : sheets.Refused} {r : Refused}
+    → checked_of s ≡ Err e → r ≡ turned_away e.why e.id b → v' ≡ zeros v → Examines s parameter l records b w w₁ v v' (Err r)
+unfolding outcome_of
+examines_refused s parameter l records b {w} {w₁} {v} {v'} ec er ev = record {
+  answer = ap (λ (z : Refused). outcome_in (Err z)) er ∙ sym (ap (after_checks s parameter l (lengths_with w v records) b) ec);
+  sets = ev ∙ ap (λ (z : Refused). sets_after s parameter (lengths_with w v records) (outcome_in (Err z))) (sym er);
+  listing = λ x q. let o : ◌≡◌ {A = ℕ} 0 1 = cc in absurd (omega arith);
+}
+
 -- ---- a script that passed, and is judged
 
 module _ (s : List ℕ) (parameter : ℕ → Bool) (l : Limits) (records : ℕ) (b : FlowBudget) (w v : List ℕ) (x : Script) (ec : checked_of s ≡ Ok x)
     (d : Result Judged Stopped) (w₁ v₁ : List ℕ) (h : Judges s parameter x l records b w w₁ v v₁ d) where
-  sound_here : Sound s x
+  pub sound_here : Sound s x
   sound_here = sound s x ec
 
   judged-is : judged s parameter x l (lengths_with w v records) b ≡ outcome_of s parameter l (lengths_with w v records) b

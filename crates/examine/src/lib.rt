@@ -1,9 +1,10 @@
 // A sheet examined: the judging of its script, and the sets buffer as it is left.
 #![tactic(auto)]
 
-ghost use Rattle.std.specs.Prelude.{◌≡◌};
+ghost use Rattle.std.specs.Prelude.{◌≡◌, Ok};
 ghost use Rattle.budget.specs.Budget.{counted};
 ghost use Rattle.sheet.specs.Decode.{parts_of};
+ghost use Rattle.sheet.specs.Scripts.{checked_of};
 ghost use Rattle.sizes.specs.Sizes.{answer_words};
 ghost use Rattle.starts.specs.Starts.{parameter_with};
 ghost use Rattle.examine.specs.Examine.{Examines};
@@ -32,9 +33,27 @@ pub struct Refused {
     pub budget: FlowBudget,
 }
 
-// Judges a sheet that passed the checks, with the slots of `added` as parameters beside the sheet's own (words that it lacks count as zero, and what is
+// The sheet checks, then the judging, with the slots of `added` as parameters beside the sheet's own (words that it lacks count as zero, and what is
 // no slot is not looked at), and with each limit at most today's. After a refusal the sets buffer is zero; after acceptance it holds the answer and
 // then zeros, and scratch the blocks. The caller clears scratch. `records` is how many block records are lent.
+pub fn examine(
+    sheet: &[u8],
+    added: &[u64],
+    limits: Limits,
+    budget: FlowBudget,
+    s: &mut [u64],
+    t: &mut [u64],
+    records: usize,
+) -> Result<Examined, Refused>
+    ensures { Examines sheet.now (parameter_with (parts_of sheet.now) added.now) (counted limits) records budget s.old s.new t.old t.new result }
+{
+    match Sheet::check(sheet) {
+        Err(e) => Err(refuse(t, e.why, e.id, budget)),
+        Ok(sheet) => passed(&sheet, added, limits, budget, s, t, records),
+    }
+}
+
+// The same of a sheet that passed the checks: for an entry that asks more of the script before it is judged.
 pub fn passed(
     sheet: &Sheet<'_>,
     added: &[u64],
@@ -44,6 +63,7 @@ pub fn passed(
     t: &mut [u64],
     records: usize,
 ) -> Result<Examined, Refused>
+    requires { checked_of sheet.now.bytes.now ≡ Ok sheet.now.script }
     ensures { Examines sheet.now.bytes.now (parameter_with (parts_of sheet.now.bytes.now) added.now) (counted limits) records budget s.old s.new t.old t.new result }
 {
     let id = sheet.script.id;

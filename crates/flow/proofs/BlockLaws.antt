@@ -122,7 +122,7 @@ module _ {s : List ℕ} {b : FlowBudget} {list list' : List Block} {v v' w w' : 
         (λ id blocks awaits left e. accepted_sound s (parameter_in (parts_of s)) l (lengths_of list v w) b id blocks awaits left (sym says_own.answer ∙ e))
         list' (lists_single h.blocks)
 
-    blocks_under : BlocksVerifiedUnder s l b list list' v v' w w' r
+    pub blocks_under : BlocksVerifiedUnder s l b list list' v v' w w' r
     blocks_under = record { verified = says_own; blocks = own_left }
 
   -- `verify`

@@ -28,7 +28,7 @@ use Rattle.flow.specs.Call.{Lists, Own, With, Called}
 
 module _ {T : Type 0} (listed : Mem → ℕ → ℕ → T) where
   -- the list that is filled from scratch
-  lists_in : (s : List ℕ) (records n : ℕ) (w₁ : List ℕ) (e : Result Examined Refused) → ((x : Examined) → e ≡ Ok x → Listing s records w₁ x.layout)
+  pub lists_in : (s : List ℕ) (records n : ℕ) (w₁ : List ℕ) (e : Result Examined Refused) → ((x : Examined) → e ≡ Ok x → Listing s records w₁ x.layout)
       → (list' : List T) → list' ≡ tabulate 0 n (listed (scratch (layout_in e) w₁) (layout_in e).blocks) → Lists listed s records n (outcome_in e) list'
   lists_in s records n w₁ (Ok x) listing list' is = let g = listing x refl in record {
     cells = scratch x.layout w₁;

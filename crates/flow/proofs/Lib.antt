@@ -3,3 +3,4 @@ pub mod CallLaws
 pub mod WordLaws
 pub mod Bounds
 pub mod BlockLaws
+pub mod FilledLaws

@@ -36,7 +36,7 @@ whole : (n : ℕ) → n ≡ 6 * (n / 6) + n % 6
 whole n = omega arith
 
 -- the list: the records of the blocks, then zeros
-words_are : (s list v w : List ℕ) (o : Outcome) (list' : List ℕ) → Lists list_word s (length list / 6) (length list) o list'
+pub words_are : (s list v w : List ℕ) (o : Outcome) (list' : List ℕ) → Lists list_word s (length list / 6) (length list) o list'
     → list' ≡ list_after s (lengths_of list v w) o ++ replicate (length list % 6) 0
 words_are s list v w (refused r id b) list' h =
     h.is
@@ -52,7 +52,7 @@ words_are s list v w (accepted id blocks awaits b) list' h =
 
 module _ {s : List ℕ} {b : FlowBudget} {list list' v v' w w' : List ℕ} where
   -- with the sheet's own parameters, under any limits as they count
-  words_under : {l : Limits} (r : Answer) → Called 6 list_word s (Own s l b) list list' v v' w w' (outcome_by r)
+  pub words_under : {l : Limits} (r : Answer) → Called 6 list_word s (Own s l b) list list' v v' w w' (outcome_by r)
       → WordsVerifiedUnder s l b list list' v v' w w' r
   words_under r h = record { verified = h.says; blocks = words_are s list v w (outcome_by r) list' h.blocks }
 

@@ -111,9 +111,8 @@ impl<R: Print> Printer<'_, R> {
         let first = blocks.saturating_mul(2 * w);
         let rows = sets.get(first..).unwrap_or_default();
         for row in rows.chunks_exact(1 + w).take(awaits) {
-            if let Some(line) = Await::at(row, 0, w) {
-                self.show(Line::Await(line))?;
-            }
+            let n = Await::render_at(row, 0, w, &mut self.text);
+            self.write_line(n)?;
         }
         Ok(())
     }
@@ -121,6 +120,11 @@ impl<R: Print> Printer<'_, R> {
     // Writes a line.
     fn show(&mut self, line: Line) -> io::Result<()> {
         let n = line.render(&mut self.text);
+        self.write_line(n)
+    }
+
+    // Writes the line of n bytes at the front of the text; none where n is 0.
+    fn write_line(&self, n: usize) -> io::Result<()> {
         match self.text.get(..n) {
             Some(bytes) => self.rt.write_all(bytes),
             None => Err(io::ErrorKind::WriteZero.into()),

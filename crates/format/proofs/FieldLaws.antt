@@ -1,5 +1,5 @@
 -- The fields of a record one after the other: the steps of the loops over them. Assumes nothing.
-use mathlib.Core.Path.{◌≡◌, ap, sym, ◌∙◌}
+use mathlib.Core.Path.{◌≡◌, refl, ap, sym, ◌∙◌}
 use mathlib.Core.Bool.{Bool, ◌||◌, or_assoc, or-false}
 use mathlib.Core.List.{List, [], ◌∷◌, ◌++◌, map}
 use Prim.Native.Nat.{ℕ, zero, suc, ◌+◌, ◌≤◌, ◌<◌}
@@ -43,6 +43,12 @@ module _ (k slots n : ℕ) (v : List ℕ) where
 
   pub faults_end : (j : ℕ) (r : Faults) → length v ≤ j → FaultsIn k (take j v) slots n r → FaultsIn k v slots n r
   faults_end j r h a = rw (take_all j v h) at a
+
+-- a number at or above a bound is a field that passes a test which looks at no role
+pub above-field : (bound k j : ℕ) (v : List ℕ) → any_above bound v ≡ any_field (λ role x. leb bound x) k j v
+unfolding any_above any_field
+above-field bound k j [] = refl
+above-field bound k j (x ∷ v) = ap (λ (t : Bool). leb bound x || t) (above-field bound k (j + 1) v)
 
 -- whether a number is at or above a bound: after one more
 pub above_more : (bound x : ℕ) (l : List (List ℕ)) (y : List ℕ) → x ≡ number_in y

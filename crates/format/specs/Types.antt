@@ -11,10 +11,12 @@ mutual
     host : Ty
     reference : Ty
     tuple : Items → Ty
+    deriving IsSet as Ty-set
 
   pub data Items : Type 0 where
     no_more : Items
     item : Ty → Items → Items
+    deriving IsSet as Items-set
 
 -- `inline_host` of flow.rs: a host type, a reference, or a tuple that holds such at any depth
 abbrev mutual

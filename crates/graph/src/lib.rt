@@ -1,13 +1,13 @@
 // `graph` and `reachability` of flow.rs, stage by stage.
 #![tactic(auto)]
 
-ghost use Rattle.std.specs.Prelude.{◌≡◌, ◌*◌, ◌≤◌, ◌<◌, length, Ok};
-ghost use Rattle.sheet.specs.Scripts.{checked_of};
+ghost use Rattle.std.specs.Prelude.{◌≡◌, ◌*◌, ◌≤◌, ◌<◌, length};
 ghost use Rattle.memory.specs.Buffer.{Lends};
 ghost use Rattle.memory.specs.Scratch.{scratch};
 ghost use Rattle.memory.specs.Sets.{sets};
 ghost use Rattle.sheet.specs.Decode.{parts_of};
 ghost use Rattle.sizes.specs.Sizes.{scratch_words, sets_words};
+ghost use Rattle.instructions.specs.Sound.{Sound};
 ghost use Rattle.starts.specs.Starts.{parameter_with, Starts};
 ghost use Rattle.blocks.specs.Blocks.{Ready};
 ghost use Rattle.edges.specs.Edges.{Held};
@@ -21,7 +21,7 @@ use memory::scratch::Scratch;
 use memory::sets::Sets;
 use run::Run;
 use run::meter::Meter;
-use run::terms::Terms;
+use run::terms::{SetsTerms, Terms};
 use sizes::{Layout, Lent, Stopped};
 use std::marker::Brand;
 use std::mem;
@@ -69,14 +69,17 @@ fn build<R: Run>(
     budget: FlowBudget,
 ) -> Result<(Layout, FlowBudget), Stopped>
     requires { (terms.layout ≡ R.layout) × (limits ≡ R.limits) × Lends R.scratch s.old.words × Lends R.sets t.old.words
-        × (scratch_words terms.layout ≤ length s.old.words.now) × (sets_words terms.layout ≤ length t.old.words.now)
+        × (scratch_words terms.layout ≤ length s.old.words.now) × (sets_words terms.layout ≤ length t.old.words.now) × (terms.layout.awaits ≤ 65536)
         × Ready sheet.now.bytes.now sheet.now.script terms.layout (scratch terms.layout s.old.words.now) }
     ensures lent { Lends R.scratch s.new.words × Lends R.sets t.new.words }
     ensures built { Built sheet.now.bytes.now (parameter_with (parts_of sheet.now.bytes.now) added.now) sheet.now.script terms.layout limits budget
         (scratch terms.layout s.old.words.now) (scratch terms.layout s.new.words.now) (sets terms.layout t.new.words.now) result }
 {
     let mut cells = Scratch::<R>::new(mem::take(&mut s.words), terms);
-    let mut kept = Sets::<R>::new(mem::take(&mut t.words), terms);
+    let kept_terms = SetsTerms {
+        layout: terms.layout,
+    };
+    let mut kept = Sets::<R>::new(mem::take(&mut t.words), kept_terms);
     let built = build_cells(
         sheet,
         added,
@@ -128,7 +131,7 @@ fn parameters<R: Run>(sheet: &Sheet<'_>, added: &[u64], s: &mut Scratch<'_, R>)
     s.change(
         SlotRow::Parameters,
         |row|
-            requires { (checked_of bytes.now ≡ Ok script) × (script.slots ≤ 64 * length row.old) }
+            requires { Sound bytes.now script × (script.slots ≤ 64 * length row.old) }
             ensures { Starts (parts_of bytes.entry.now) added.entry.now (length row.old) row.new }
         { starts::insert_all(&Sheet { bytes, script }, added, row) },
     );

@@ -150,11 +150,12 @@ module _ (k : ℕ) (v : List ℕ) (low : 1 ≤ k) (high : k ≤ 41) (fit : fits 
         subst (AllBelow slots) (sym (inputs_two k v low high fit))
         (below-append slots (drop (fixed_at k) v) (gathered (singles S Sopt k) v) listed_below r)
 
+    pub outputs_ok : AllBelow slots (gathered (singles D Dopt k) v)
+    outputs_ok = singles-below (no_slot slots) ok D Dopt slots (output-class slots) 4 0 (omega arith)
+
     pub output_ok : (x : ℕ) → output_of k v ≡ some x → x < slots
     unfolding by_pattern
-    output_ok x e =
-        below-first slots (gathered (singles D Dopt k) v) x (singles-below (no_slot slots) ok D Dopt slots (output-class slots) 4 0 (omega arith))
-        (sym (output-agree k v low high) ∙ e)
+    output_ok x e = below-first slots (gathered (singles D Dopt k) v) x outputs_ok (sym (output-agree k v low high) ∙ e)
 
   pub targets_ok : (n : ℕ) → ((j : ℕ) → j < length v → no_target n (role_at k j) (get_or v j absent) ≡ false) → AllBelow n (targets_of k v)
   targets_ok n ok =

@@ -8,9 +8,12 @@ use native.Mathlib.Nat.{zero-mul}
 use mir.Val.{bool_byte}
 use lib.ListN.{length, get_or, drop}
 use lib.Seq.{drop-cons}
+use Rattle.std.specs.Prelude.{Some}
 use Rattle.std.proofs.lemmas.List.{get_or-map, length-map}
-use Rattle.operands.specs.Bytes.{number_in}
+use Rattle.operands.specs.Bytes.{number_in, u32_at, numbers_at}
 use Rattle.operands.specs.Choice.{pick}
+use Rattle.operands.specs.Instructions.{nth}
+use Rattle.operands.proofs.NumberLaws.{number_at, number_count}
 use Rattle.bitset.specs.Below.{AllBelow}
 use Rattle.bitset.proofs.Below.{below-get_or}
 use Rattle.bitset.specs.Operations.{inserted}
@@ -50,6 +53,17 @@ bit-made b v k h e =
     go : (b : Bool) → bool_byte b * 2 ^ (k % 64) % 2 ^ 64 ≡ pick b (2 ^ (k % 64)) 0
     go true = mask (k % 64) (omega arith)
     go false = ap (λ (x : ℕ). x % 2 ^ 64) (zero-mul (2 ^ (k % 64)))
+
+-- one of some numbers below a bound
+pub below-number : (n : ℕ) (s : List ℕ) (at count k : ℕ) → AllBelow n (numbers_at s at count) → k < count → u32_at s (at + 4 * k) < n
+below-number n s at count k a h =
+    subst (λ (x : ℕ). x < n) (number_at s at count k 0 h)
+    (below-get_or n (numbers_at s at count) k 0 a (subst (λ (m : ℕ). k < m) (sym (number_count s at count)) h))
+
+pub below-nth : (n : ℕ) (l : List ℕ) (i x : ℕ) → AllBelow n l → nth l i ≡ Some x → x < n
+below-nth n [] i x a e = let z : ◌≡◌ {A = ℕ} 0 1 = cc in absurd (omega arith)
+below-nth n (y ∷ l) zero x a e = let q : y ≡ x = cc in omega (arith, a.0)
+below-nth n (y ∷ l) (suc i) x a e = below-nth n l i x a.1 e
 
 -- numbers put in one after the other
 module _ (items : List (List ℕ)) (i : ℕ) (h : i < length items) where

@@ -29,6 +29,10 @@ pub record SlotWithin (s : List ℕ) (at : ℕ) : Type 0 where
 pub slot_lies : {s : List ℕ} {at : ℕ} → SlotStands s at → SlotWithin s at
 slot_lies {s} {at} h = let w = lies s at h.whole in record { some_body = omega (arith, h.some_body); within = w.within }
 
+-- and so does a body of two bytes
+pub two_bytes : (s : List ℕ) (at : ℕ) → SlotStands s at → u16_at s at ≡ 4 → at + 6 ≤ length s
+two_bytes s at h e = let w = slot_lies h in omega (arith, w.within)
+
 -- whether a type that was read in a body is a host type, as the code tells it
 host_told : (r : Read Ty) (n : ℕ) (o : Option Typed) (b : Bool) → o ≡ typed_of r → MatchOption o (b ≡ false) (λ x. b ≡ x.host)
     → b ≡ inline_host (type_in (moved n r))
@@ -74,7 +78,7 @@ read_host (suc (suc (suc (suc (suc b))))) at =
     other : (n : ℕ) → n < 5 → eqb (suc (suc (suc (suc (suc b))))) n ≡ false
     other n h = ne_eqb (suc (suc (suc (suc (suc b))))) n (λ e. omega arith)
 
-byte_host : (s : List ℕ) (at : ℕ) → inline_host (type_in (whole_type s (at + 1) at)) ≡ (eqb (get_or s at 0) 2 || eqb (get_or s at 0) 3)
+pub byte_host : (s : List ℕ) (at : ℕ) → inline_host (type_in (whole_type s (at + 1) at)) ≡ (eqb (get_or s at 0) 2 || eqb (get_or s at 0) 3)
 byte_host s at = ap (λ (r : Read Ty). inline_host (type_in r)) (byte_read s at) ∙ read_host (get_or s at 0) at
 
 -- the slot of a body of two bytes

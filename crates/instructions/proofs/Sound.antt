@@ -157,4 +157,4 @@ sound-checked s r x c e = sound s x (sym c.answer ∙ e)
 
 -- so a sheet that passed is
 pub passed_sound : (x : Sheet) → Sound x.bytes.now x.script
-passed_sound x = sound x.bytes.now x.script x.passed
+passed_sound x = x.sound

@@ -3,4 +3,5 @@ pub mod Placed
 pub mod Slots
 pub mod Sets
 pub mod Sound
+pub mod SoundOnce
 pub mod Sheets

@@ -1,6 +1,6 @@
 // A sheet that passed the checks, with what is known of it.
-ghost use Rattle.std.specs.Prelude.{◌≡◌, Ok};
-ghost use Rattle.sheet.specs.Scripts.{checked_of};
+ghost use Rattle.instructions.specs.Sound.{Sound};
+ghost use Rattle.instructions.specs.SoundOnce.{Sound-prop};
 
 use sheet::script::{Refused, Script};
 
@@ -8,8 +8,7 @@ use sheet::script::{Refused, Script};
 pub struct Sheet<'a> {
     pub bytes: &'a [u8],
     pub script: Script,
-    // so `Sound` of it is known: `passed_sound`
-    pub ghost passed: { checked_of bytes.now ≡ Ok script },
+    pub ghost sound: { Sound bytes.now script } by { Sound-prop bytes.now script },
 }
 
 impl<'a> Sheet<'a> {

@@ -110,13 +110,15 @@ module _ (s : List ℕ) (parameter : ℕ → Bool) (x : Script) (l : Limits) (re
         instructions = indexes.room.instructions;
         blocks = indexes.room.blocks;
         words = indexes.room.words;
-        awaits = indexes.sets_room.awaits;
         extra = indexes.room.extra;
       }
 
       -- both buffers are long enough: the sets buffer is as long as it was lent
       pub scratch_enough : scratch_words y ≤ length w₁
       scratch_enough = indexes.room.fits
+
+      pub awaits_few : y.awaits ≤ 65536
+      awaits_few = indexes.sets_room.awaits
 
       pub sets_enough : length v₁ ≡ length v → sets_words y ≤ length v₁
       sets_enough long = omega (arith, long, indexes.sets_room.fits)

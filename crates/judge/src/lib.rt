@@ -1,16 +1,16 @@
 // `verify` of flow.rs on a sheet that passed the checks, stage by stage.
 #![tactic(auto)]
 
-ghost use Rattle.std.specs.Prelude.{◌≡◌, ◌*◌, ◌-◌, ◌^◌, ◌≤◌, ◌<◌, length, Ok};
+ghost use Rattle.std.specs.Prelude.{◌≡◌, ◌*◌, ◌-◌, ◌^◌, ◌≤◌, ◌<◌, length};
 ghost use Rattle.memory.specs.Cells.{store_cell};
 ghost use Rattle.memory.specs.Names.{hosts_row};
 ghost use Rattle.memory.specs.Buffer.{Lends};
 ghost use Rattle.memory.specs.Scratch.{scratch};
 ghost use Rattle.memory.specs.Sets.{sets};
 ghost use Rattle.sheet.specs.Decode.{parts_of};
-ghost use Rattle.sheet.specs.Scripts.{checked_of};
 ghost use Rattle.sizes.specs.Sizes.{scratch_words, sets_words};
 ghost use Rattle.instructions.specs.Sets.{host_row};
+ghost use Rattle.instructions.specs.Sound.{Sound};
 ghost use Rattle.starts.specs.Starts.{parameter_with};
 ghost use Rattle.reads.specs.Reads.{held_set};
 ghost use Rattle.judge.specs.Judge.{Begun, Hosted, Solves, Judges};
@@ -25,7 +25,7 @@ use memory::scratch::Scratch;
 use memory::sets::Sets;
 use run::Run;
 use run::meter::Meter;
-use run::terms::Terms;
+use run::terms::{SetsTerms, Terms};
 use sizes::{Layout, Stopped};
 use std::marker::Brand;
 use std::mem;
@@ -81,15 +81,18 @@ fn solve<R: Run>(
     budget: FlowBudget,
 ) -> Result<Judged, Stopped>
     requires { (terms.layout ≡ R.layout) × (limits ≡ R.limits) × Lends R.scratch s.old.words × Lends R.sets t.old.words
-        × (scratch_words terms.layout ≤ length s.old.words.now) × (sets_words terms.layout ≤ length t.old.words.now) × (limits.work < 2 ^ 64 - 1)
-        × Begun sheet.now.bytes.now (held_set terms.layout (scratch terms.layout s.old.words.now)) sheet.now.script terms.layout
+        × (scratch_words terms.layout ≤ length s.old.words.now) × (sets_words terms.layout ≤ length t.old.words.now) × (terms.layout.awaits ≤ 65536)
+        × (limits.work < 2 ^ 64 - 1) × Begun sheet.now.bytes.now (held_set terms.layout (scratch terms.layout s.old.words.now)) sheet.now.script terms.layout
         (scratch terms.layout s.old.words.now) (sets terms.layout t.old.words.now) }
     ensures lent { Lends R.scratch s.new.words × Lends R.sets t.new.words }
     ensures solved { Solves sheet.now.bytes.now (held_set terms.layout (scratch terms.layout s.old.words.now)) sheet.now.script terms.layout limits budget
         (scratch terms.layout s.new.words.now) (sets terms.layout t.new.words.now) result }
 {
     let mut cells = Scratch::<R>::new(mem::take(&mut s.words), terms);
-    let mut kept = Sets::<R>::new(mem::take(&mut t.words), terms);
+    let kept_terms = SetsTerms {
+        layout: terms.layout,
+    };
+    let mut kept = Sets::<R>::new(mem::take(&mut t.words), kept_terms);
     let judged = solve_cells(sheet, &mut cells, &mut kept, Meter::new(limits, budget));
     s.words = cells.into_words();
     t.words = kept.into_words();
@@ -140,7 +143,7 @@ fn hosts<R: Run>(sheet: &Sheet<'_>, s: &mut Scratch<'_, R>)
     s.change(
         SlotRow::Hosts,
         |row|
-            requires { (checked_of bytes.now ≡ Ok script) × (script.slots ≤ 64 * length row.old) }
+            requires { Sound bytes.now script × (script.slots ≤ 64 * length row.old) }
             ensures { row.new ≡ host_row (parts_of bytes.entry.now) (length row.old) }
         { sets::insert_hosts(&Sheet { bytes, script }, row) },
     );

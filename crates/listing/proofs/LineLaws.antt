@@ -9,7 +9,7 @@ use Rattle.listing.specs.Text.{Writes}
 use Rattle.listing.proofs.Decimal.{decimal_is}
 use Rattle.listing.proofs.TextLaws.{writes_then, respelled}
 
-spaced-append : (xs ys : List ℕ) → spaced (xs ++ ys) ≡ spaced xs ++ spaced ys
+pub spaced-append : (xs ys : List ℕ) → spaced (xs ++ ys) ≡ spaced xs ++ spaced ys
 spaced-append [] ys = refl
 spaced-append (x ∷ xs) ys =
     ap (λ (t : List ℕ). (32 ∷ decimal x) ++ t) (spaced-append xs ys) ∙ sym (append_assoc (32 ∷ decimal x) (spaced xs) (spaced ys))

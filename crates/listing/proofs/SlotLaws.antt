@@ -2,14 +2,16 @@
 use mathlib.Core.Path.{◌≡◌, sym, ap, ◌∙◌}
 use mathlib.Core.Bool.{Bool, true, false}
 use mathlib.Core.List.{List, [], ◌∷◌, ◌++◌, append-nil}
-use Prim.Native.Nat.{ℕ, ◌+◌}
+use Prim.Native.Nat.{ℕ, ◌+◌, ◌*◌, ◌≤◌}
 use native.Mathlib.Omega.{arith}
+use lib.ListN.{length, take, drop, length-append}
 use Rattle.bitset.specs.Sets.{member}
 use Rattle.dataflow.specs.Lists.{pick, range, keep}
-use Rattle.dataflow.proofs.Lists.{range-append, keep_append}
+use Rattle.dataflow.proofs.Lists.{range_length, range-append, keep_append, keep-few}
 use Rattle.listing.specs.declared.text.LentText.{LentText}
-use Rattle.listing.specs.Lines.{spaced}
+use Rattle.listing.specs.Lines.{spaced, slots_at}
 use Rattle.listing.specs.Text.{Writes}
+use Rattle.listing.proofs.Decimal.{length-decimal}
 use Rattle.listing.proofs.TextLaws.{respelled}
 use Rattle.listing.proofs.LineLaws.{writes_more}
 
@@ -34,3 +36,15 @@ pub text_without : {s t : LentText} (ws : List ℕ) (slot : ℕ) → member ws s
     → Writes s t (spaced (slots_below ws (slot + 1)))
 text_without ws slot h p =
     respelled (sym (ap spaced (slots-more ws slot ∙ ap (λ (b : Bool). slots_below ws slot ++ pick b (slot ∷ []) []) h ∙ append-nil (slots_below ws slot)))) p
+
+-- how long they can be
+pub slots-few : (v : List ℕ) (w base : ℕ) → length (slots_at v w base) ≤ 64 * w
+slots-few v w base =
+    omega (arith, keep-few (member (take w (drop base v))) (range 0 (64 * w)), range_length 0 (64 * w))
+
+length-spaced : (l : List ℕ) → length (spaced l) ≤ 21 * length l
+length-spaced [] = omega arith
+length-spaced (n ∷ l) = simp length-append (omega (arith, length-decimal n, length-spaced l))
+
+pub slots-short : (v : List ℕ) (w base : ℕ) → length (spaced (slots_at v w base)) ≤ 21 * (64 * w)
+slots-short v w base = omega (arith, length-spaced (slots_at v w base), slots-few v w base)

@@ -31,10 +31,10 @@ pub puts_past : (l : List ℕ) (at b : ℕ) → length l ≤ at → Puts l l at 
 puts_past l at b h = record { next = refl; is = sym (set_out l at b h) }
 
 -- ---- one thing after another
-puts_none : (l : List ℕ) (at : ℕ) → Puts l l at [] at
+pub puts_none : (l : List ℕ) (at : ℕ) → Puts l l at [] at
 puts_none l at = record { next = sym (add-zero at); is = refl }
 
-puts_then : {l m n xs ys : List ℕ} {at a b : ℕ} → Puts l m at xs a → Puts m n a ys b → Puts l n at (xs ++ ys) b
+pub puts_then : {l m n xs ys : List ℕ} {at a b : ℕ} → Puts l m at xs a → Puts m n a ys b → Puts l n at (xs ++ ys) b
 puts_then {l} {xs} {ys} {at} p q = record {
   next = simp length-append (omega (arith, p.next, q.next));
   is = q.is ∙ rw (p.is, p.next) (sets-append l at xs ys);

@@ -1,6 +1,7 @@
 // An await of a listing: which instruction it is, and the set of slots that are live there.
 ghost use Rattle.std.specs.Prelude.{◌≤◌, length};
 
+use crate::Line;
 use crate::text::LentText;
 
 #[derive(Clone, Copy, Debug, PartialEq, Eq)]
@@ -37,8 +38,18 @@ impl<'a> Await<'a> {
 impl Await<'_> {
     ghost use Rattle.std.specs.Prelude.{◌≡◌, ◌+◌, ◌*◌, ◌^◌};
     ghost use Rattle.listing.specs.Lines.{spaced};
-    ghost use Rattle.listing.specs.Text.{Writes};
+    ghost use Rattle.listing.specs.Text.{AwaitRendered, Writes};
     ghost use Rattle.listing.specs.Awaits.{await_text, slots_of};
+
+    // Renders the await that `at` gives, and answers how long its line is; 0, with nothing written, where there is none.
+    pub fn render_at(sets: &[u64], at: usize, w: usize, text: &mut [u8]) -> usize
+        ensures { AwaitRendered sets.now w at text.old text.new result }
+    {
+        match Await::at(sets, at, w) {
+            Some(line) => Line::Await(line).render(text),
+            None => 0,
+        }
+    }
 
     // The whole line.
     pub(crate) fn write(&self, out: &mut LentText)

@@ -6,8 +6,8 @@ use Prim.Native.Nat.{ℕ, zero, suc, ◌+◌, ◌*◌, ◌/◌, ◌%◌, ◌^◌
 use native.Mathlib.Nat.{pow-suc, mod-lt, zero-lt-suc, div-one, one-mul, zero-mul}
 use native.Mathlib.Omega.{arith}
 use mir.Val.{bool_byte}
-use lib.Bits.{bit_and, bit_or, and_zero_r, and_step, or_shifted_r}
-use lib.Count.{ones, ones_step}
+use lib.Bits.{bit_and, bit_or, and_zero_r, and_step, and_le_r, or_shifted_r}
+use lib.Count.{ones, ones_step, ones-le}
 use lib.Dec.{eqb, ltb, leb}
 use lib.ListN.{get_or}
 use borrow.Author.Tests.{leb-true, leb-false, le-ltb, lt-ltb}
@@ -111,6 +111,13 @@ ones-common f (suc n) k x =
         let p : suc k + (0 + i) ≡ k + (1 + i) = omega arith in
         ap₂ (λ (d j : ℕ). pick (eqb d 1) (one (f j)) 0)
         (ap (digit (x / 2)) z ∙ sym (digit-next x i) ∙ ap (digit x) (sym o)) p
+
+-- of a word there are at most 64
+pub common-few : (x y : ℕ) → y < 2 ^ 64 → ones (bit_and x y) ≤ 64
+common-few x y h = ones-le 64 (bit_and x y) (le_lt (bit_and x y) y (2 ^ 64) (and_le_r x y) h)
+  where
+    le_lt : (a b c : ℕ) → a ≤ b → b < c → a < c
+    le_lt a b c l m = omega arith
 
 -- ---- a slot's weight as a bit
 pub weight_one : (k : SlotKind) → one (ltb 1 k.physical) ≡ weight_of k

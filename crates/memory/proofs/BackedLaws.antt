@@ -8,7 +8,7 @@ use lib.Seq.{paste}
 use Rattle.bitset.specs.Operations.{join, difference}
 use Rattle.bitset.specs.Rows.{row, patched, Apart}
 use Rattle.sizes.specs.declared.Layout.{Layout}
-use Rattle.run.specs.Terms.{Loan}
+use Rattle.run.specs.Terms.{Loan, SetsBounded}
 use Rattle.sizes.specs.Sizes.{scratch_words, sets_words}
 use Rattle.memory.specs.declared.names.Cell.{Cell}
 use Rattle.memory.specs.declared.names.SlotRow.{SlotRow}
@@ -120,6 +120,9 @@ pub ruleset backed = (backed_end, backed_ordered)
 
 -- ---- the sets buffer as a run has it
 module _ {y own : Layout} {loan : Loan} {name : ℕ} {m : Mem} (l : List ℕ) (b : SetsBack y own loan name (length l)) (see : sets own l ≡ m) where
+  pub sets_backed_bounded : SetsBounded y
+  sets_backed_bounded = rw (← b.same) (record { blocks = b.room.blocks; words = b.room.words; awaits = b.room.awaits })
+
   pub sets_backed_whole : SetsWhole y m
   sets_backed_whole = rw (← see, ← b.same) (sets_sized l b.room)
 

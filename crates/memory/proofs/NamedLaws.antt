@@ -9,7 +9,7 @@ use Rattle.memory.specs.declared.names.Cell.{Cell}
 use Rattle.memory.specs.declared.names.Cell.TheVariants.{Offset, BlockOf, Leader, Cost, Start, End, Reachable, SuccessorCount, FirstEdge}
 use Rattle.memory.specs.declared.names.Cell.TheVariants.{PredecessorCount, Order, Ring, Queued, StackBlock, StackEdge, Visited, Successor, NextEdge}
 use Rattle.memory.specs.declared.names.SlotRow.{SlotRow}
-use Rattle.memory.specs.declared.names.SlotRow.TheVariants.{Uses, Defines, State, LiveState, Parameters, Hosts}
+use Rattle.memory.specs.declared.names.SlotRow.TheVariants.{Uses, Defines, Spare, State, LiveState, Parameters, Hosts}
 use Rattle.memory.specs.declared.names.BlockSet.{BlockSet}
 use Rattle.memory.specs.declared.names.BlockSet.TheVariants.{Initialized, Live}
 use lib.ListN.{take}
@@ -76,6 +76,7 @@ module _ (y : Layout) (c : Cell) {start w : ℕ} (e : start ≡ total (take (cel
 pub row_there : {y : Layout} (r : SlotRow) → RowThere y r → Row y (row_of y r)
 row_there (Uses b) h = record { low = omega arith; high = omega arith }
 row_there (Defines b) h = record { low = omega arith; high = omega arith }
+row_there (Spare k) h = record { low = omega arith; high = omega arith }
 row_there State h = record { low = omega arith; high = omega arith }
 row_there LiveState h = record { low = omega arith; high = omega arith }
 row_there Parameters h = record { low = omega arith; high = omega arith }

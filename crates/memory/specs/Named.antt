@@ -5,12 +5,12 @@ use Rattle.memory.specs.declared.names.Cell.{Cell}
 use Rattle.memory.specs.declared.names.Cell.TheVariants.{Offset, BlockOf, Leader, Cost, Start, End, Reachable, SuccessorCount, FirstEdge}
 use Rattle.memory.specs.declared.names.Cell.TheVariants.{PredecessorCount, Order, Ring, Queued, StackBlock, StackEdge, Visited, Successor, NextEdge}
 use Rattle.memory.specs.declared.names.SlotRow.{SlotRow}
-use Rattle.memory.specs.declared.names.SlotRow.TheVariants.{Uses, Defines, State, LiveState, Parameters, Hosts}
+use Rattle.memory.specs.declared.names.SlotRow.TheVariants.{Uses, Defines, Spare, State, LiveState, Parameters, Hosts}
 use Rattle.memory.specs.declared.names.BlockSet.{BlockSet}
 use Rattle.memory.specs.declared.names.BlockSet.TheVariants.{Initialized, Live}
 use Rattle.memory.specs.Names.{offset_cell, block_of_cell, leader_cell, cost_cell, start_cell, end_cell, reachable_cell, successor_count_cell}
 use Rattle.memory.specs.Names.{first_edge_cell, predecessor_count_cell, order_cell, ring_cell, queued_cell, stack_block_cell, stack_edge_cell}
-use Rattle.memory.specs.Names.{visited_cell, successor_cell, next_edge_cell, uses_row, defines_row, state_row, live_state_row, parameters_row}
+use Rattle.memory.specs.Names.{visited_cell, successor_cell, next_edge_cell, uses_row, defines_row, spare_row, state_row, live_state_row, parameters_row}
 use Rattle.memory.specs.Names.{hosts_row, initialized_row, live_row}
 use Rattle.memory.specs.Scratch.{edge_words}
 
@@ -60,6 +60,7 @@ width_of y NextEdge = edge_words y
 abbrev pub row_of : Layout → SlotRow → ℕ
 row_of y (Uses b) = uses_row b
 row_of y (Defines b) = defines_row b
+row_of y (Spare k) = spare_row y.blocks k
 row_of y State = state_row y.blocks
 row_of y LiveState = live_state_row y.blocks
 row_of y Parameters = parameters_row y.blocks
@@ -69,6 +70,7 @@ row_of y Hosts = hosts_row y.blocks
 abbrev pub RowThere : Layout → SlotRow → Type 0
 RowThere y (Uses b) = b < y.blocks
 RowThere y (Defines b) = b < y.blocks
+RowThere y (Spare k) = k < 2 * y.blocks
 RowThere y State = Unit {0}
 RowThere y LiveState = Unit {0}
 RowThere y Parameters = Unit {0}

@@ -1,4 +1,4 @@
--- The cells of both buffers, by the names of src/layout.rt.
+-- The cells of both buffers, by the names of src/names.rt.
 use Rattle.std.specs.Prelude.{ℕ, ◌+◌, ◌*◌}
 
 -- a word an instruction
@@ -68,6 +68,10 @@ uses_row b = 18 + 2 * b
 
 abbrev pub defines_row : ℕ → ℕ
 defines_row b = 19 + 2 * b
+
+-- behind those of n blocks the k-th of two more rows a block
+abbrev pub spare_row : ℕ → ℕ → ℕ
+spare_row n k = 18 + 2 * n + k
 
 -- and of n blocks together: the running state, the running live set, the parameters, the host slots
 abbrev pub state_row : ℕ → ℕ

@@ -1,5 +1,5 @@
 // Where each cell of the two buffers lies: the range of its words.
-ghost use Rattle.std.specs.Prelude.{◌≡◌, ℕ, ◌+◌, ◌^◌, ◌<◌, take, get_or};
+ghost use Rattle.std.specs.Prelude.{◌≡◌, ℕ, ◌+◌, ◌^◌, ◌≤◌, ◌<◌, take, get_or};
 ghost use Rattle.memory.specs.Cells.{total, Covers};
 ghost use Rattle.memory.specs.Named.{cell_of, width_of, row_of, set_of, RowThere, SetThere};
 ghost use Rattle.memory.specs.Names.{await_entry};
@@ -8,25 +8,39 @@ ghost use Rattle.memory.specs.Sets.{sets_widths, AwaitEntry};
 ghost use Rattle.sizes.specs.Sizes.{scratch_words, sets_words};
 
 use crate::names::{BlockSet, Cell, SlotRow};
-use run::terms::Terms;
+use run::terms::{SetsTerms, Terms};
+use sizes::Layout;
 use std::ops::Range;
 
+// The cell that is the first row: uses and defines of each block side by side.
+pub const ROWS: usize = 18;
+
 // How many edges there may be.
-pub fn edge_words(terms: Terms) -> usize
-    ensures { result ≡ edge_words terms.layout }
+pub fn edge_words(y: Layout) -> usize
+    requires { (y.blocks ≤ 65536) × (y.extra ≤ 16777216) }
+    ensures { result ≡ edge_words y }
 {
-    2 * terms.layout.blocks + terms.layout.extra
+    2 * y.blocks + y.extra
+}
+
+// The cell of the sets buffer that is the k-th await's entry.
+pub fn await_entry(y: Layout, k: usize) -> usize
+    requires { (y.blocks ≤ 65536) × (k ≤ 65536) }
+    ensures { result ≡ await_entry y.blocks k }
+{
+    2 * y.blocks + k
 }
 
 // How wide a cell of scratch is that is no row.
-fn cell_width(terms: Terms, cell: Cell) -> usize
-    ensures { result ≡ width_of terms.layout cell }
+pub fn cell_width(y: Layout, cell: Cell) -> usize
+    requires { (y.blocks ≤ 65536) × (y.extra ≤ 16777216) }
+    ensures { result ≡ width_of y cell }
 {
     match cell {
-        Cell::Offset | Cell::BlockOf | Cell::Leader | Cell::Cost => terms.layout.instructions,
-        Cell::Successor => 2 * terms.layout.blocks,
-        Cell::NextEdge => edge_words(terms),
-        _ => terms.layout.blocks,
+        Cell::Offset | Cell::BlockOf | Cell::Leader | Cell::Cost => y.instructions,
+        Cell::Successor => 2 * y.blocks,
+        Cell::NextEdge => edge_words(y),
+        _ => y.blocks,
     }
 }
 
@@ -49,7 +63,7 @@ pub fn cell_words(terms: Terms, cell: Cell) -> Range<usize>
     ensures { Covers (scratch_widths terms.layout) (cell_of cell) (width_of terms.layout cell) (scratch_words terms.layout) result.start result.end }
 {
     let start = cell_start(terms, cell);
-    start..start + cell_width(terms, cell)
+    start..start + cell_width(terms.layout, cell)
 }
 
 // The words of a row of scratch.
@@ -58,21 +72,21 @@ pub fn row_words(terms: Terms, row: SlotRow) -> Range<usize>
     ensures { Covers (scratch_widths terms.layout) (row_of terms.layout row) terms.layout.words (scratch_words terms.layout) result.start result.end }
 {
     let y = terms.layout;
-    let start = 4 * y.instructions + 16 * y.blocks + y.extra + (row.number(terms) - 18) * y.words;
+    let start = 4 * y.instructions + 16 * y.blocks + y.extra + (row.number(y) - ROWS) * y.words;
     start..start + y.words
 }
 
 // The words of a row of the sets buffer.
-pub fn set_words(terms: Terms, set: BlockSet) -> Range<usize>
+pub fn set_words(terms: SetsTerms, set: BlockSet) -> Range<usize>
     requires { SetThere terms.layout set }
     ensures { Covers (sets_widths terms.layout) (set_of set) terms.layout.words (sets_words terms.layout) result.start result.end }
 {
-    let start = set.number(terms) * terms.layout.words;
+    let start = set.number(terms.layout) * terms.layout.words;
     start..start + terms.layout.words
 }
 
 // The words of the k-th await's entry there.
-pub fn entry_words(terms: Terms, k: usize) -> Range<usize>
+pub fn entry_words(terms: SetsTerms, k: usize) -> Range<usize>
     requires { k < terms.layout.awaits }
     ensures { Covers (sets_widths terms.layout) (await_entry terms.layout.blocks k) (1 + terms.layout.words) (sets_words terms.layout) result.start result.end }
 {

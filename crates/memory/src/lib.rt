@@ -3,7 +3,7 @@
 
 pub mod buffer;
 pub mod edges;
-mod layout;
+pub mod layout;
 pub mod names;
 pub mod scratch;
 pub mod sets;

@@ -1,8 +1,8 @@
 // The cells of both buffers, by name.
-ghost use Rattle.std.specs.Prelude.{◌≡◌};
+ghost use Rattle.std.specs.Prelude.{◌≡◌, ◌≤◌};
 ghost use Rattle.memory.specs.Named.{cell_of, row_of, set_of, RowThere, SetThere};
 
-use run::terms::Terms;
+use sizes::Layout;
 
 // The cells of scratch that are no rows.
 #[derive(Clone, Copy, PartialEq, Eq, Debug)]
@@ -31,12 +31,13 @@ pub enum Cell {
     NextEdge,
 }
 
-// The rows of scratch: what a block uses and what it defines, by its number; then the running state, the running live set, the parameters, the
-// host slots.
+// The rows of scratch: what a block uses and what it defines, by its number; then two more a block, which nothing uses yet; then the running state,
+// the running live set, the parameters, the host slots.
 #[derive(Clone, Copy, PartialEq, Eq, Debug)]
 pub enum SlotRow {
     Uses(usize),
     Defines(usize),
+    Spare(usize),
     State,
     LiveState,
     Parameters,
@@ -61,25 +62,26 @@ impl Cell {
 
 impl SlotRow {
     // Which cell it is.
-    pub fn number(self, terms: Terms) -> usize
-        requires { RowThere terms.layout self }
-        ensures { result ≡ row_of terms.layout self }
+    pub fn number(self, y: Layout) -> usize
+        requires { (y.blocks ≤ 65536) × RowThere y self }
+        ensures { result ≡ row_of y self }
     {
         match self {
             SlotRow::Uses(block) => 18 + 2 * block,
             SlotRow::Defines(block) => 19 + 2 * block,
-            SlotRow::State => 18 + 4 * terms.layout.blocks,
-            SlotRow::LiveState => 19 + 4 * terms.layout.blocks,
-            SlotRow::Parameters => 20 + 4 * terms.layout.blocks,
-            SlotRow::Hosts => 21 + 4 * terms.layout.blocks,
+            SlotRow::Spare(k) => 18 + 2 * y.blocks + k,
+            SlotRow::State => 18 + 4 * y.blocks,
+            SlotRow::LiveState => 19 + 4 * y.blocks,
+            SlotRow::Parameters => 20 + 4 * y.blocks,
+            SlotRow::Hosts => 21 + 4 * y.blocks,
         }
     }
 }
 
 impl BlockSet {
     // Which cell it is.
-    pub fn number(self, terms: Terms) -> usize
-        requires { SetThere terms.layout self }
+    pub fn number(self, y: Layout) -> usize
+        requires { (y.blocks ≤ 65536) × SetThere y self }
         ensures { result ≡ set_of self }
     {
         match self {

@@ -116,6 +116,22 @@ impl<'a, R: Run> Scratch<'a, R> {
         &self.words[layout::row_words(self.terms, row)]
     }
 
+    // Word i of a row.
+    pub fn row_word(&self, row: SlotRow, i: usize) -> u64
+        requires { RowThere R.layout row × (i < R.layout.words) }
+        ensures { result ≡ word self.now (row_of R.layout row) i }
+    {
+        self.row(row)[i]
+    }
+
+    // It becomes v.
+    pub fn put_row_word(&mut self, row: SlotRow, i: usize, v: u64)
+        requires { RowThere R.layout row × (i < R.layout.words) }
+        ensures { self.new ≡ store self.old (row_of R.layout row) i v }
+    {
+        self.words[layout::row_words(self.terms, row)][i] = v;
+    }
+
     // Whether the slot is in a row.
     pub fn contains(&self, row: SlotRow, slot: usize) -> bool
         requires { RowThere R.layout row × (slot / 64 < R.layout.words) }
@@ -194,6 +210,14 @@ impl<'a, R: Run> Scratch<'a, R> {
             j.start,
             self.terms.layout.words,
         );
+    }
+
+    // A row becomes a block's set.
+    pub fn take_set(&mut self, row: SlotRow, t: &Sets<'_, R>, set: BlockSet)
+        requires { RowThere R.layout row × SetThere R.layout set }
+        ensures { self.new ≡ store_cell self.old (row_of R.layout row) (cell t.now (set_of set)) }
+    {
+        self.words[layout::row_words(self.terms, row)].copy_from_slice(t.row(set));
     }
 
     // A row keeps what is also in a block's set.

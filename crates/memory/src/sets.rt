@@ -7,20 +7,21 @@ ghost use Rattle.memory.specs.Cells.{Mem, InWords, cell, store_cell};
 ghost use Rattle.memory.specs.Names.{await_entry};
 ghost use Rattle.memory.specs.Named.{row_of, set_of, RowThere, SetThere};
 ghost use Rattle.memory.specs.Sets.{sets, SetsWhole, SetsBack};
+ghost use Rattle.run.specs.Terms.{SetsBounded};
 ghost use Rattle.sizes.specs.Sizes.{sets_words};
 
 use crate::layout;
 use crate::names::{BlockSet, SlotRow};
 use crate::scratch::Scratch;
 use run::Run;
-use run::terms::Terms;
+use run::terms::SetsTerms;
 use sizes::Layout;
 use std::marker::{Model, PhantomData};
 
 #[derive(Drop)]
 pub struct Sets<'a, R: Run> {
     words: &'a mut [u64],
-    terms: Terms,
+    terms: SetsTerms,
     run: PhantomData<R>,
 }
 
@@ -34,7 +35,7 @@ impl<'a, R: Run> Model for Sets<'a, R> {
 }
 
 impl<'a, R: Run> Sets<'a, R> {
-    pub fn new(words: &'a mut [u64], terms: Terms) -> Self
+    pub fn new(words: &'a mut [u64], terms: SetsTerms) -> Self
         requires { (terms.layout ≡ R.layout) × (words.ghost_name ≡ R.sets.name) × (length words.old ≡ R.sets.length) × (sets_words terms.layout ≤ length words.old) }
         ensures { result ≡ sets R.layout words.old }
     {
@@ -60,6 +61,7 @@ impl<'a, R: Run> Sets<'a, R> {
     // The layout of its cells: each is as wide as it says.
     pub fn layout(&self) -> Layout
         ensures is { result ≡ R.layout }
+        ensures bounded { SetsBounded R.layout }
         ensures whole { SetsWhole R.layout self.now }
         ensures words { InWords self.now }
     {

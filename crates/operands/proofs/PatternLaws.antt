@@ -2,14 +2,14 @@
 use mathlib.Core.Path.{◌≡◌, refl, ap, sym, ◌∙◌}
 use mathlib.Core.Bool.{Bool, true, false}
 use mathlib.Core.List.{List, [], ◌∷◌, map}
-use Prim.Native.Nat.{ℕ, ◌+◌, ◌-◌, ◌*◌, ◌≤◌, ◌<◌}
+use Prim.Native.Nat.{ℕ, zero, suc, ◌+◌, ◌-◌, ◌*◌, ◌≤◌, ◌<◌}
 use native.Mathlib.Omega.{arith}
 use lib.Dec.{T, eqb, ltb, leb, eqb→eq, ltb→lt}
 use borrow.Author.Tests.{eq-eqb, le-leb, ltb-true, ltb-false, eqb-true, leb-true}
 use lib.ListN.{get_or}
 use Rattle.operands.specs.Choice.{pick}
-use Rattle.operands.specs.Places.{Place}
-use Rattle.operands.specs.Patterns.{D, Dopt, groups, pattern_in, pattern_of, role_in, role_at, single_of, fixed_at, list_at, fits}
+use Rattle.operands.specs.Places.{Place, one, optional, rest}
+use Rattle.operands.specs.Patterns.{D, S, Sopt, Dopt, groups, pattern_in, pattern_of, role_in, role_at, single_of, fixed_at, list_at, fits}
 use Rattle.operands.specs.ByPattern.{places_from}
 use Rattle.operands.specs.Roles.{role_number}
 use Rattle.operands.specs.declared.pattern.Row.{Row}
@@ -41,12 +41,12 @@ unfolding own
 word_at k l h = eqb→eq (get_or words (k - 1) 0) (word_of k) (all_own k l h)
 
 -- whether there is no place
-abbrev has_no_place : List Place → Bool
+abbrev pub has_no_place : List Place → Bool
 has_no_place [] = true
 has_no_place (p ∷ ps) = false
 
 -- then the list is empty
-no_place : (ps : List Place) → T (has_no_place ps) → ps ≡ []
+pub no_place : (ps : List Place) → T (has_no_place ps) → ps ≡ []
 no_place [] t = refl
 no_place (p ∷ ps) t = absurd t
 
@@ -95,6 +95,29 @@ all-early = at_field early tt
 pub single-early : (k j : ℕ) → 1 ≤ k → k ≤ 41 → j < 4 → single_of (role_at k j) ≡ 1 → j < fixed_at k
 unfolding early
 single-early k j l h m e = ltb→lt j (fixed_at k) (rw (eq-eqb _ _ e) at (all-early k j l h m))
+
+-- the n-th place if it and those before it are there in any case, else 9
+unfoldable pub one_at : List Place → ℕ → ℕ
+one_at [] n = 9
+one_at (one j ∷ ps) zero = j
+one_at (one j ∷ ps) (suc n) = one_at ps n
+one_at (optional j ∷ ps) n = 9
+one_at (rest j ∷ ps) n = 9
+
+-- inputs S stand together from field 0 or 1 on, before any S?
+unfoldable direct : ℕ → ℕ → Bool
+direct k n =
+    let f : ℕ = pick (eqb (role_at k 0) S) 0 1 in
+    pick (eqb (role_at k (f + n)) S) (eqb (one_at (places_from S Sopt k 0 4) n) (f + n)) true
+
+all_direct : (k n : ℕ) → 1 ≤ k → k ≤ 41 → n < 4 → T (direct k n)
+unfolding direct pattern_of pattern_in groups role_in role_at places_from one_at
+all_direct = at_field direct tt
+
+pub inputs-direct : (k n : ℕ) → 1 ≤ k → k ≤ 41 → n < 4 → role_at k (pick (eqb (role_at k 0) S) 0 1 + n) ≡ S
+    → one_at (places_from S Sopt k 0 4) n ≡ pick (eqb (role_at k 0) S) 0 1 + n
+unfolding direct
+inputs-direct k n l h m e = eqb→eq _ _ (rw (eq-eqb _ _ e) at (all_direct k n l h m))
 
 -- after the single fields each field of a kind with L is L
 unfoldable late : ℕ → ℕ → Bool

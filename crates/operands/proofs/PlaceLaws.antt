@@ -7,13 +7,13 @@ use native.Mathlib.Omega.{arith}
 use lib.Dec.{eqb}
 use lib.ListN.{length, get_or, drop, length-append}
 use borrow.Author.Tests.{ne_eqb}
-use Rattle.std.specs.Prelude.{Some, None}
+use Rattle.std.specs.Prelude.{Some, None, MatchOption}
 use Rattle.operands.specs.Choice.{pick}
 use Rattle.operands.specs.Places.{Place, one, optional, rest, absent, present, gathered}
 use Rattle.operands.specs.Patterns.{role_at, single_of, fixed_at}
 use Rattle.operands.specs.ByPattern.{single_place, places_from}
 use Rattle.operands.specs.Instructions.{nth, single_values, singles_from}
-use Rattle.operands.proofs.PatternLaws.{single-early}
+use Rattle.operands.proofs.PatternLaws.{single-early, one_at}
 
 -- gathering at places one after the other
 pub gathered-append : (ps qs : List Place) (v : List ℕ) → gathered (ps ++ qs) v ≡ gathered ps v ++ gathered qs v
@@ -32,7 +32,7 @@ gathered-append (rest j ∷ ps) qs v =
     ap (λ (l : List ℕ). drop j v ++ l) (gathered-append ps qs v) ∙ sym (append_assoc (drop j v) (gathered ps v) (gathered qs v))
 
 -- the values at a single place
-single-gathered : (a b role j : ℕ) (v : List ℕ) → gathered (single_place a b role j) v ≡ single_values a b role (get_or v j absent)
+pub single-gathered : (a b role j : ℕ) (v : List ℕ) → gathered (single_place a b role j) v ≡ single_values a b role (get_or v j absent)
 unfolding gathered
 single-gathered a b role j v = go (eqb role a) (eqb role b)
   where
@@ -51,7 +51,7 @@ singles-more a b k j (suc left) v h =
     rw (q, gathered-append (single_place a b (role_at k j) j) (places_from a b k (j + 1) left) v, single-gathered a b (role_at k j) j v)
 
 -- there is at most one value in a single place
-single-few : (a b role x : ℕ) → length (single_values a b role x) ≤ 1
+pub single-few : (a b role x : ℕ) → length (single_values a b role x) ≤ 1
 single-few a b role x = go (eqb role a) (eqb role b) (eqb x absent)
   where
     go : (p q r : Bool) → length (pick p (x ∷ []) (pick q (pick r [] (x ∷ [])) [])) ≤ 1
@@ -69,6 +69,41 @@ some_alone : (l : List ℕ) (x : ℕ) → length l ≤ 1 → Some x ≡ nth l 0 
 some_alone [] x h e = cc
 some_alone (y ∷ []) x h e = cc
 some_alone (y ∷ z ∷ l) x h e = absurd (omega arith)
+
+-- and how many there are
+pub single-counted : (a b role x : ℕ)
+    → MatchOption (nth (single_values a b role x) 0) (length (single_values a b role x) ≡ 0) (λ y. length (single_values a b role x) ≡ 1)
+single-counted a b role x = go (single_values a b role x) (single-few a b role x)
+  where
+    go : (l : List ℕ) → length l ≤ 1 → MatchOption (nth l 0) (length l ≡ 0) (λ y. length l ≡ 1)
+    go [] h = refl
+    go (y ∷ []) h = refl
+    go (y ∷ z ∷ l) h = absurd (omega arith)
+
+-- and it is the i-th where one is left
+pub nth-single : (a b role x : ℕ) (m : List ℕ) (i : ℕ) → i < length (single_values a b role x)
+    → nth (single_values a b role x) 0 ≡ nth (single_values a b role x ++ m) i
+nth-single a b role x m i h = go (single_values a b role x) (single-few a b role x) h
+  where
+    go : (l : List ℕ) → length l ≤ 1 → i < length l → nth l 0 ≡ nth (l ++ m) i
+    go [] f h = absurd (omega arith)
+    go (y ∷ []) f h = let z : i ≡ 0 = omega arith in rw z
+    go (y ∷ z ∷ l) f h = absurd (omega arith)
+
+-- the i-th of two lists
+pub nth-second : (l m : List ℕ) (i : ℕ) → length l ≤ i → nth (l ++ m) i ≡ nth m (i - length l)
+nth-second [] m i h = ap (nth m) (omega arith)
+nth-second (x ∷ l) m zero h = absurd (omega arith)
+nth-second (x ∷ l) m (suc i) h = nth-second l m i (omega arith) ∙ ap (nth m) (omega arith)
+
+-- and at places that are there in any case
+pub nth-one : (ps : List Place) (v : List ℕ) (n j : ℕ) → one_at ps n ≡ j → j < 9 → nth (gathered ps v) n ≡ Some (get_or v j absent)
+unfolding one_at gathered
+nth-one [] v n j e h = absurd (omega arith)
+nth-one (one i ∷ ps) v zero j e h = rw e
+nth-one (one i ∷ ps) v (suc n) j e h = nth-one ps v n j e h
+nth-one (optional i ∷ ps) v n j e h = absurd (omega arith)
+nth-one (rest i ∷ ps) v n j e h = absurd (omega arith)
 
 -- at most one in each field
 pub singles_few : (a b k j n : ℕ) (v : List ℕ) → length (gathered (places_from a b k j n) v) ≤ n

@@ -2,6 +2,8 @@
 ghost use Rattle.std.specs.Prelude.{◌≡◌};
 ghost use Rattle.operands.specs.Kinds.{kind_number, Numbers, ends_block, is_await};
 
+use crate::kinds;
+
 // `BytecodeInstruction` of instruction.rs, in its order: the number of a kind in a sheet is its place there, from 1 on.
 #[derive(Clone, Copy, PartialEq, Eq, Debug)]
 pub enum Kind {
@@ -114,21 +116,16 @@ impl Kind {
     }
 
     // Whether a block ends with an instruction of this kind.
-    #[tactic(auto, unfolding(crate::specs::Kinds::ends_block))]
     pub fn ends_block(self) -> bool
         ensures { result ≡ ends_block (kind_number self) }
     {
-        matches!(
-            self,
-            Kind::PredicateBranch | Kind::Jump | Kind::Branch | Kind::Return | Kind::Unreachable
-        )
+        kinds::ends_block(self.number())
     }
 
     // Whether this is the kind of `Await`.
-    #[tactic(auto, unfolding(crate::specs::Kinds::is_await))]
     pub fn is_await(self) -> bool
         ensures { result ≡ is_await (kind_number self) }
     {
-        matches!(self, Kind::Await)
+        kinds::is_await(self.number())
     }
 }

@@ -5,5 +5,6 @@ pub mod bytes;
 pub mod instruction;
 pub mod iter;
 pub mod kind;
+pub mod kinds;
 pub mod pattern;
 pub mod slots;

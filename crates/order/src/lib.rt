@@ -17,9 +17,9 @@ use run::meter::Meter;
 
 // How many frames are on the stack, and how many blocks are finished.
 #[derive(Clone, Copy, PartialEq, Eq, Debug)]
-struct Walk {
-    top: usize,
-    len: usize,
+pub struct Walk {
+    pub top: usize,
+    pub len: usize,
 }
 
 // The blocks that a path from block 0 reaches, in postorder: how many there are, and the budget to go on with.

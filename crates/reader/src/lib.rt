@@ -3,7 +3,6 @@
 
 use format::fields::Counts;
 use format::refusal::Refusal;
-use format::types::Tag;
 use operands::kind::Kind;
 use records::record;
 
@@ -16,7 +15,6 @@ pub struct Reader<'a> {
 
 impl<'a> Reader<'a> {
     ghost use Rattle.std.specs.Prelude.{◌≡◌, ◌+◌, ◌*◌};
-    ghost use Rattle.format.specs.Answers.{tag_number};
     ghost use Rattle.records.specs.Records.{plain_run};
     ghost use Rattle.reader.specs.Steps.{ReadsFunction, ReadsParameters, ReadsSlot, ReadsInstruction};
 
@@ -62,8 +60,8 @@ impl<'a> Reader<'a> {
 
     // The plain slot records with types up to this one, at most so many: how many they are.
     #[tactic(auto, using(records::proofs::RunLaws::plain_run_inside))]
-    pub fn plain_slots(&mut self, top: Tag, most: usize) -> usize
-        ensures count { result ≡ plain_run self.old.sheet.now (tag_number top) self.old.at most }
+    pub fn plain_slots(&mut self, top: usize, most: usize) -> usize
+        ensures count { result ≡ plain_run self.old.sheet.now top self.old.at most }
         ensures sheet { self.new.sheet ≡ self.old.sheet }
         ensures at { self.new.at ≡ self.old.at + 6 * result }
     {

@@ -1,14 +1,15 @@
 -- What a record that passed is like: each check taken back. Assumes nothing.
-use mathlib.Core.Path.{◌≡◌, refl}
+use mathlib.Core.Path.{◌≡◌, refl, sym, subst}
 use mathlib.Core.Bool.{Bool, true, false, ◌||◌, not, and-eq-true_iff}
 use mathlib.Core.List.{List, [], ◌∷◌}
 use mathlib.Core.Option.{Option, none, some}
-use Prim.Native.Nat.{ℕ, ◌+◌, ◌/◌, ◌%◌, ◌≤◌, ◌<◌}
+use Prim.Native.Nat.{ℕ, ◌+◌, ◌*◌, ◌-◌, ◌/◌, ◌%◌, ◌≤◌, ◌<◌}
 use native.Mathlib.Omega.{arith}
 use borrow.Author.Tests.{not-false, eqb-true, leb-true, leb-false}
 use lib.Dec.{eqb, leb, ltb}
-use lib.ListN.{get_or}
+use lib.ListN.{length, get_or}
 use Rattle.bitset.specs.Below.{AllBelow}
+use Rattle.operands.specs.Bytes.{numbers_at}
 use Rattle.operands.specs.Patterns.{fits}
 use Rattle.repeats.specs.Repeats.{any_twice}
 use Rattle.format.specs.declared.refusal.Refusal.{Refusal}
@@ -17,6 +18,7 @@ use Rattle.format.specs.Refusals.{due, or_else}
 use Rattle.format.specs.Heads.{short, kind_at, end_at, body_length, fields_at}
 use Rattle.format.specs.Types.{whole_type, ends_with}
 use Rattle.format.specs.Fields.{bad_module, no_slot, no_target, any_field, any_above}
+use Rattle.format.proofs.HeadLaws.{lies}
 use Rattle.std.proofs.lemmas.Bool.{or_parts}
 use Rattle.records.specs.Records.{function_fault, parameter_slots_fault, repeat_fault, parameters_fault, bad_slot, slot_fault, bad_instruction, instruction_fault}
 
@@ -65,6 +67,23 @@ slots-passed s slots at e =
     let c = none-due _ BadBody _ b.1 in
     let d = none-due _ NoSuchSlot _ c.1 in
     record { whole = a.0; kind = eqb-true _ _ (not-false _ b.0); fields = eqb-true _ _ (not-false _ c.0); below = d.0 }
+
+-- it lies in the sheet
+pub parameters-lie : (s : List ℕ) (slots at x : ℕ) → parameter_slots_fault s slots at ≡ none → x ≡ end_at s at → (at + 4 ≤ x) × (x ≤ length s)
+parameters-lie s slots at x e q =
+    let w = lies s at (slots-passed s slots at e).whole in
+    (omega (arith, w.ordered, q), omega (arith, w.within, q))
+
+-- so do its parameters, and each is a slot
+pub parameters_below : (s : List ℕ) (slots at x : ℕ) → parameter_slots_fault s slots at ≡ none → x ≡ end_at s at
+    → (at + 4 + 4 * ((x - (at + 4)) / 4) ≤ length s) × AllBelow slots (numbers_at s (at + 4) ((x - (at + 4)) / 4))
+unfolding fields_at
+parameters_below s slots at x e q =
+    let p = slots-passed s slots at e in
+    let l = parameters-lie s slots at x e q in (
+      omega (arith, l.0, l.1),
+      subst (λ (end : ℕ). AllBelow slots (numbers_at s (at + 4) ((end - (at + 4)) / 4))) (sym q) (none_above slots (fields_at s at) p.below),
+    )
 
 pub record ParametersPassed (s : List ℕ) (slots at : ℕ) : Type 0 where
   pub all_slots : ParameterSlotsPassed s slots at

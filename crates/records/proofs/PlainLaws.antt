@@ -1,5 +1,5 @@
 -- The slot record of six bytes. Assumes nothing.
-use mathlib.Core.Path.{◌≡◌, ap, ◌∙◌}
+use mathlib.Core.Path.{◌≡◌, sym, ap, ◌∙◌}
 use mathlib.Core.Bool.{Bool, true, false, ◌&&◌, not, and-eq-true_iff}
 use mathlib.Core.List.{List}
 use mathlib.Core.Option.{none}
@@ -63,7 +63,10 @@ module _ (s : List ℕ) (top at : ℕ) (p : Plain s top at) where
       slot_typed s (at + 4) (at + 6) _ (omega arith) (omega (arith, p.physical, fits top)) (byte_type s (at + 6) (at + 4 + 1) (omega arith) l)
       ∙ ap not (eq-eqb (at + 4 + 1 + 1) (at + 6) (omega arith))
 
-  -- it passes
-  pub plain_due : top ≤ 3 → slot_fault s at ≡ none
+  plain-passes : top ≤ 3 → slot_fault s at ≡ none
   unfolding slot_fault
-  plain_due h = rw (plain_whole, eq-eqb (kind_at s at) 258 p.kind, ← plain_end, plain-good h)
+  plain-passes h = rw (plain_whole, eq-eqb (kind_at s at) 258 p.kind, ← plain_end, plain-good h)
+
+  -- it passes, as a record of its kind with six bytes
+  pub plain_due : top ≤ 3 → (slot_fault s at ≡ none) × (end_at s at ≡ at + 6) × (kind_at s at ≡ 258)
+  plain_due h = (plain-passes h, sym plain_end, p.kind)

@@ -1,7 +1,6 @@
 // The checks of one record, the least number of the refusal table first.
 ghost use Rattle.std.specs.Prelude.{◌≡◌, ◌+◌, ◌≤◌, length, not};
 ghost use Rattle.operands.specs.Kinds.{kind_of};
-ghost use Rattle.format.specs.Answers.{tag_number};
 ghost use Rattle.format.specs.Heads.{kind_at, end_at};
 ghost use Rattle.format.specs.Refusals.{answered};
 ghost use Rattle.records.specs.Records.{top_physical, bad_slot, plain_slot, plain_run, function_fault, parameter_slots_fault, slot_fault, instruction_fault};
@@ -115,31 +114,31 @@ pub fn instruction_record(s: &[u8], at: usize, counts: Counts) -> Result<Code, R
 }
 
 // The largest physical byte beside types up to this one: 10 is a host handle.
-fn top_physical(top: Tag) -> u8
-    ensures { result ≡ top_physical (tag_number top) }
+fn top_physical(top: usize) -> u8
+    ensures { result ≡ top_physical top }
 {
-    match top {
-        Tag::Absent | Tag::Other => 9,
-        Tag::Host | Tag::Reference | Tag::Tuple => 12,
+    if top <= Tag::Other as usize {
+        return 9;
     }
+    12
 }
 
 // Whether six bytes are a slot record with a type of one byte, at most this one: most are so. Its head is one number: length 4, kind 258. A comparison
 // of each was tried: where slots are plain the sheet checks took twice as long.
 #[tactic(auto, unfolding(crate::specs::Records::plain_slot))]
-fn plain_slot(s: &[u8], top: Tag, at: usize) -> bool
+fn plain_slot(s: &[u8], top: usize, at: usize) -> bool
     requires { at + 6 ≤ length s.now }
-    ensures { result ≡ plain_slot s.now (tag_number top) at }
+    ensures { result ≡ plain_slot s.now top at }
 {
     operands::bytes::u32_at(s, at) == 4 + ((SLOT as u32) << 16)
         && s[at + 4] <= top_physical(top)
-        && s[at + 5] <= top as u8
+        && s[at + 5] as usize <= top
 }
 
 // How many plain slot records, of six bytes each, with types up to this one stand one after the other from an offset on, at most so many.
 #[tactic(auto, using(crate::proofs::RunLaws::plain_run_far, crate::proofs::RunLaws::plain_run_more, crate::proofs::RunLaws::plain_run_stop))]
-pub fn plain_slots(s: &[u8], top: Tag, most: usize, at: usize) -> usize
-    ensures { result ≡ plain_run s.now (tag_number top) at most }
+pub fn plain_slots(s: &[u8], top: usize, most: usize, at: usize) -> usize
+    ensures { result ≡ plain_run s.now top at most }
 {
     if s.len() < at {
         return 0;

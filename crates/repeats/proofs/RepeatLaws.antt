@@ -2,7 +2,7 @@
 use mathlib.Core.Path.{◌≡◌, refl, ap, ap₂, ◌∙◌}
 use mathlib.Core.Bool.{Bool, true, false, ◌||◌}
 use mathlib.Core.List.{List, [], ◌∷◌, map}
-use Prim.Native.Nat.{ℕ, zero, suc, ◌+◌, ◌*◌, ◌/◌, ◌≤◌, ◌<◌}
+use Prim.Native.Nat.{ℕ, zero, suc, ◌+◌, ◌*◌, ◌-◌, ◌/◌, ◌≤◌, ◌<◌}
 use native.Mathlib.Omega.{arith}
 use lib.Dec.{eqb}
 use lib.ListN.{length, get_or, drop, replicate}
@@ -12,10 +12,27 @@ use Rattle.bitset.specs.Below.{AllBelow}
 use Rattle.bitset.specs.Sets.{member}
 use Rattle.bitset.specs.Operations.{inserted}
 use Rattle.bitset.proofs.SetLaws.{member-zero, member_inserted, length_inserted}
-use Rattle.operands.specs.Bytes.{number_in}
+use Rattle.bitset.proofs.RowLaws.{inserted_at}
+use Rattle.operands.specs.Bytes.{number_in, u32_at, numbers_at}
 use Rattle.operands.specs.Patterns.{among}
 use Rattle.repeats.specs.Repeats.{any_twice}
 use Rattle.repeats.specs.Seen.{twice_seen}
+
+-- the first of some numbers, and the others
+pub numbers-cons : (s : List ℕ) (at n : ℕ) → 0 < n → numbers_at s at n ≡ u32_at s at ∷ numbers_at s (at + 4) (n - 1)
+unfolding numbers_at
+numbers-cons s at zero lt = absurd (omega arith)
+numbers-cons s at (suc n) lt = let e : n ≡ suc n - 1 = omega arith in ap (λ (k : ℕ). u32_at s at ∷ numbers_at s (at + 4) k) e
+
+pub numbers-none : (s : List ℕ) (at n : ℕ) → n ≡ 0 → numbers_at s at n ≡ []
+unfolding numbers_at
+numbers-none s at zero e = refl
+numbers-none s at (suc n) e = absurd (omega (arith, e))
+
+-- the set at the front of a slice
+pub inserted-front : (ws : List ℕ) (x : ℕ) → inserted_at ws 0 x ≡ inserted ws x
+unfolding inserted_at
+inserted-front ws x = refl
 
 -- a number among others, as a test of each finds it
 pub among_any : (x : ℕ) (l : List (List ℕ)) → list_any (λ b. eqb x (number_in b)) l ≡ among x (map number_in l)
@@ -51,11 +68,11 @@ number_below m (b ∷ l) zero h a = a.0
 number_below m (b ∷ l) (suc i) h a = number_below m l i (omega arith) a.1
 
 -- one more in the set: the bound stays
-below-inserted : (ws : List ℕ) (x : ℕ) (l : List ℕ) → AllBelow (64 * length ws) l → AllBelow (64 * length (inserted ws x)) l
+pub below-inserted : (ws : List ℕ) (x : ℕ) (l : List ℕ) → AllBelow (64 * length ws) l → AllBelow (64 * length (inserted ws x)) l
 below-inserted ws x l b = rw (length_inserted ws x) b
 
 -- whether one of the numbers is in a set
-abbrev any_member : List ℕ → List ℕ → Bool
+abbrev pub any_member : List ℕ → List ℕ → Bool
 any_member ws [] = false
 any_member ws (x ∷ xs) = member ws x || any_member ws xs
 

@@ -8,7 +8,7 @@ use budget::{FlowBudget, Limits, OverFacts, OverWork};
 use std::marker::{Model, PhantomData};
 
 // A contract sees the budget: the limits are the run's.
-#[derive(Drop)]
+#[derive(Clone, Copy)]
 pub struct Meter<R: Run> {
     limits: Limits,
     budget: FlowBudget,
@@ -21,6 +21,9 @@ impl<R: Run> Model for Meter<R> {
     ghost view = { λ m. m.budget };
 
     ghost invariant = { λ m. m.limits ≡ R.limits };
+
+    // A budget tells the meter, so that it may be copied.
+    ghost inverse = { λ b. record { limits = R.limits; budget = b; run = record {} } };
 }
 
 impl<R: Run> Meter<R> {

@@ -67,8 +67,10 @@ unfolding offset_of
 offset-add s at zero n = ap (offset_of s at) (zero-add n)
 offset-add s at (suc k) n = ap (offset_of s at) (suc-add k n) ∙ offset-add s (end_at s at) k n
 
--- what n records from an offset on answer is what so many that are left from another offset on answer
+-- what n records from an offset on answer is what so many that are left from another offset on answer, and both end at one place
 pub record Run (fault : ℕ → Option Refusal) (s : List ℕ) (first n at left : ℕ) : Type 0 where
+  pub below : left ≤ n
+  pub offset : offset_of s first n ≡ offset_of s at left
   pub faults : first_of fault s first n ≡ first_of fault s at left
   pub stops : stop_of fault s first n ≡ stop_of fault s at left
 
@@ -80,8 +82,13 @@ pub record Stopped (fault : ℕ → Option Refusal) (s : List ℕ) (first n : �
 module _ (fault : ℕ → Option Refusal) (s : List ℕ) where
   -- a part of the records that passed, and then the others
   part : (at k n next : ℕ) → first_of fault s at k ≡ none → next ≡ stop_of fault s at k → Run fault s at (k + n) next n
-  unfolding first_of stop_of
-  part at zero n next e p = record { faults = rw p (ap (first_of fault s at) (zero-add n)); stops = rw p (ap (stop_of fault s at) (zero-add n)) }
+  unfolding first_of stop_of offset_of
+  part at zero n next e p = record {
+    below = omega arith;
+    offset = rw p (ap (offset_of s at) (zero-add n));
+    faults = rw p (ap (first_of fault s at) (zero-add n));
+    stops = rw p (ap (stop_of fault s at) (zero-add n));
+  }
   part at (suc k) n next e p = go (fault at) refl e p (part (end_at s at) k n next)
     where
       go : (f : Option Refusal) → fault at ≡ f → or_else f (first_of fault s (end_at s at) k) ≡ none
@@ -91,6 +98,8 @@ module _ (fault : ℕ → Option Refusal) (s : List ℕ) where
       go none q e p more =
           let r = more e p in
           record {
+            below = omega arith;
+            offset = ap (offset_of s at) (suc-add k n) ∙ r.offset;
             faults = ap (first_of fault s at) (suc-add k n) ∙ rw q r.faults;
             stops = ap (stop_of fault s at) (suc-add k n) ∙ rw q r.stops;
           }
@@ -121,7 +130,12 @@ module _ {fault : ℕ → Option Refusal} {s : List ℕ} {first n at left : ℕ}
   pub run_part : (k rest : ℕ) {next : ℕ} → left ≡ k + rest → Stopped fault s at k none next → Run fault s first n next rest
   run_part k rest {next = next} l t =
       let q = part fault s at k rest next t.fault_is (sym t.stop_is) in
-      record { faults = r.faults ∙ ap (first_of fault s at) l ∙ q.faults; stops = r.stops ∙ ap (stop_of fault s at) l ∙ q.stops }
+      record {
+        below = omega (arith, r.below, l);
+        offset = r.offset ∙ ap (offset_of s at) l ∙ q.offset;
+        faults = r.faults ∙ ap (first_of fault s at) l ∙ q.faults;
+        stops = r.stops ∙ ap (stop_of fault s at) l ∙ q.stops;
+      }
 
   pub run_part_stop : (k rest : ℕ) {why : Refusal} {next : ℕ} → left ≡ k + rest → Stopped fault s at k (some why) next → Stopped fault s first n (some why) next
   run_part_stop k rest {why = why} l t =
@@ -130,8 +144,13 @@ module _ {fault : ℕ → Option Refusal} {s : List ℕ} {first n at left : ℕ}
 
   -- the same of one record
   pub run_more : (rest : ℕ) {next : ℕ} → left ≡ suc rest → fault at ≡ none → next ≡ end_at s at → Run fault s first n next rest
-  unfolding first_of stop_of
-  run_more rest l e p = record { faults = r.faults ∙ rw (l, e, p); stops = r.stops ∙ rw (l, e, p) }
+  unfolding first_of stop_of offset_of
+  run_more rest l e p = record {
+    below = omega (arith, r.below, l);
+    offset = r.offset ∙ rw (l, p);
+    faults = r.faults ∙ rw (l, e, p);
+    stops = r.stops ∙ rw (l, e, p);
+  }
 
   pub run_stop : (rest : ℕ) {why : Refusal} → left ≡ suc rest → fault at ≡ some why → Stopped fault s first n (some why) at
   unfolding first_of stop_of
@@ -153,7 +172,7 @@ module _ {A : Type 0} (s : List ℕ) (top : ℕ) (l : top ≤ 3) (g : ℕ → �
           → g at (suc n) ≡ g (at + 6 * pick b (suc (plain_run s top (at + 6) n)) 0) (suc n - pick b (suc (plain_run s top (at + 6) n)) 0)
       go true b e =
           let p = plain s top at b in
-          let t = step at n (plain_due s top at p l) in
+          let t = step at n (plain_due s top at p l).0 in
           let q = plain_end s top at p in
           let x : at + 6 + 6 * plain_run s top (at + 6) n ≡ at + 6 * suc (plain_run s top (at + 6) n) = omega arith in
           let y : n - plain_run s top (at + 6) n ≡ suc n - suc (plain_run s top (at + 6) n) = omega arith in
@@ -163,14 +182,16 @@ module _ {A : Type 0} (s : List ℕ) (top : ℕ) (l : top ≤ 3) (g : ℕ → �
 -- so the walk over slot records goes on behind the plain ones at its place
 pub run_plain : {s : List ℕ} {first n at left : ℕ} → Run (λ a. slot_fault s a) s first n at left → (top : ℕ) → top ≤ 3 → (k : ℕ) {next : ℕ}
     → k ≡ plain_run s top at left → next ≡ at + 6 * k → Run (λ a. slot_fault s a) s first n next (left - k)
-unfolding first_of stop_of
+unfolding first_of stop_of offset_of
 run_plain {s = s} {at = at} {left = left} r top l k e p = record {
+  below = omega (arith, r.below);
+  offset = r.offset ∙ behind-plain s top l (offset_of s) (λ at n h. refl) left at ∙ rw (← e, ← p);
   faults = r.faults ∙ behind-plain s top l (first_of (λ a. slot_fault s a) s) (λ at n h. rw h) left at ∙ rw (← e, ← p);
   stops = r.stops ∙ behind-plain s top l (stop_of (λ a. slot_fault s a) s) (λ at n h. rw h) left at ∙ rw (← e, ← p);
 }
 
 pub run_start : {fault : ℕ → Option Refusal} {s : List ℕ} {first n : ℕ} → Run fault s first n first n
-run_start = record { faults = refl; stops = refl }
+run_start = record { below = omega arith; offset = refl; faults = refl; stops = refl }
 
 -- what a walk answers where it ends
 pub walks_passed : {A : Type 0} {fault : ℕ → Option Refusal} {n : ℕ} {a : A} {r r' : Reader} → r'.sheet ≡ r.sheet

@@ -23,7 +23,7 @@ fn any_slots(reader: &mut Reader<'_>, slots: usize) -> Result<(), Refusal>
 {
     let mut left = slots;
     while 0 < left {
-        left -= reader.plain_slots(Tag::Reference, left);
+        left -= reader.plain_slots(Tag::Reference as usize, left);
         if left == 0 {
             break;
         }
@@ -41,7 +41,7 @@ pub fn walk_slots(reader: &mut Reader<'_>, slots: usize) -> Result<usize, Refusa
     let mut host_words = 0;
     for word in 0..slots.div_ceil(64) {
         let n = (slots - 64 * word).min(64);
-        let plain = reader.plain_slots(Tag::Other, n);
+        let plain = reader.plain_slots(Tag::Other as usize, n);
         if plain < n {
             any_slots(reader, n - plain)?;
             host_words = word + 1;

@@ -55,11 +55,11 @@ dependents-over Liveness m b {n} {k} e h = ap (map source_of) (chain_over m n k 
 
 -- they stay
 module _ {m m' : Mem} (s : SameEdges m m') where
-  dependent_kept : (d : Direction) (b k e : ℕ) → dependent_at d m' b k e ≡ dependent_at d m b k e
+  pub dependent_kept : (d : Direction) (b k e : ℕ) → dependent_at d m' b k e ≡ dependent_at d m b k e
   dependent_kept Initialization b k e = at_kept s b k
   dependent_kept Liveness b k e = refl
 
-  behind_kept : (d : Direction) (e : ℕ) → behind_of d m' e ≡ behind_of d m e
+  pub behind_kept : (d : Direction) (e : ℕ) → behind_of d m' e ≡ behind_of d m e
   behind_kept Initialization e = refl
   behind_kept Liveness e = next_kept s e
 

@@ -110,7 +110,7 @@ module _ (y : Layout) (m : Mem) (z : Whole y m) where
   pushed_whole t g d = sized-store (scratch_widths y) _ ring_cell _ d (sized-store (scratch_widths y) m queued_cell d 1 z)
 
   -- one mark more, and one block more that waits
-  pushed_good : (t : Mem) (g : Ring) (d : ℕ) → d < y.blocks → word m queued_cell d ≡ 0 → Good y m g
+  pub pushed_good : (t : Mem) (g : Ring) (d : ℕ) → d < y.blocks → word m queued_cell d ≡ 0 → Good y m g
       → Good y (pushed y d (at_of m t g)).mem (pushed y d (at_of m t g)).ring
   unfolding pushed
   pushed_good t g d hd u h = record {

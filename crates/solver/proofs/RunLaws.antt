@@ -50,7 +50,7 @@ module _ (y : Layout) (l : Limits) (m₀ : Mem) (g₀ : Ring) (b₀ : FlowBudget
 
 module _ {y : Layout} {l : Limits} {m₀ : Mem} {g₀ : Ring} {b₀ : FlowBudget} {es ds : List ℕ} where
   -- before the first
-  telling_none : ds ≡ es → Whole y m₀ → Good y m₀ g₀ → b₀.work ≤ l.work → Telling y l m₀ g₀ b₀ es ds m₀ g₀ b₀
+  pub telling_none : ds ≡ es → Whole y m₀ → Good y m₀ g₀ → b₀.work ≤ l.work → Telling y l m₀ g₀ b₀ es ds m₀ g₀ b₀
   telling_none e z h lim = record {
     edges = same_none m₀;
     whole = z;
@@ -68,7 +68,7 @@ module _ {y : Layout} {l : Limits} {m₀ : Mem} {g₀ : Ring} {b₀ : FlowBudget
     paying e t = sym (ap (λ (xs : List ℕ). told y l xs (at_of m t g) b) e) ∙ r.same t
 
     -- the charge was met, and the block was offered
-    telling_more : l.work < 2 ^ 64 - 1 → {d : ℕ} {cs : List ℕ} {b' : FlowBudget} {m' : Mem} {g' : Ring}
+    pub telling_more : l.work < 2 ^ 64 - 1 → {d : ℕ} {cs : List ℕ} {b' : FlowBudget} {m' : Mem} {g' : Ring}
         → ds ≡ d ∷ cs → d < y.blocks → Ok b' ≡ charged l b (1 ∷ []) → Offers y d m g m' g' → Telling y l m₀ g₀ b₀ es cs m' g' b'
     telling_more lim {d} {cs} {b'} {m'} {g'} e hd ec o = record {
       edges = same_then r.edges kept.edges;
@@ -88,12 +88,12 @@ module _ {y : Layout} {l : Limits} {m₀ : Mem} {g₀ : Ring} {b₀ : FlowBudget
         kept = offers_kept y m r.whole hd r.good o
 
     -- the charge crossed the limit
-    telling_over : {d : ℕ} {cs : List ℕ} {x : OverWork} → ds ≡ d ∷ cs → Err x ≡ charged l b (1 ∷ []) → Tells y l es m₀ g₀ b₀ m (Err x)
+    pub telling_over : {d : ℕ} {cs : List ℕ} {x : OverWork} → ds ≡ d ∷ cs → Err x ≡ charged l b (1 ∷ []) → Tells y l es m₀ g₀ b₀ m (Err x)
     telling_over {d} {cs} e ec = λ t.
         (ap (λ (a : Charged). paid a (λ z. told y l cs (offered y d (at_of m t g)) z)) ec ∙ paying e t, tt)
 
     -- all are told
-    telling_all : ds ≡ [] → Tells y l es m₀ g₀ b₀ m (Ok (g, b))
+    pub telling_all : ds ≡ [] → Tells y l es m₀ g₀ b₀ m (Ok (g, b))
     unfolding told
     telling_all e = λ t. (
       sym (ap (λ (xs : List ℕ). told y l xs (at_of m t g) b) e) ∙ r.same t,

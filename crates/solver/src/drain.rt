@@ -88,7 +88,7 @@ fn visit<R: Run>(
     ensures { (out_of s.new t.new result ≡ visited d R.layout R.limits (at_of s.old t.old from) meter) × Went R.layout R.limits (meter.work + 1) (out_of s.new t.new result) }
 {
     let rest = Ring {
-        head: ring::wrapped(s, from.head + 1),
+        head: ring::wrapped(s.layout(), from.head + 1),
         count: from.count - 1,
     };
     let block = s.get(Cell::Ring, from.head) as usize;

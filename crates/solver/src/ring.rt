@@ -5,6 +5,7 @@ ghost use Rattle.solver.specs.Run.{wrap, Pushes, Offers};
 use memory::names::Cell;
 use memory::scratch::Scratch;
 use run::Run;
+use sizes::Layout;
 
 // Where the first of the waiting blocks stands, and how many wait.
 #[derive(Clone, Copy, PartialEq, Eq, Debug)]
@@ -14,11 +15,10 @@ pub struct Ring {
 }
 
 // A place of the ring: behind the last one comes the first.
-pub fn wrapped<R: Run>(s: &Scratch<'_, R>, at: usize) -> usize
-    ensures { result ≡ wrap R.layout at }
+pub fn wrapped(y: Layout, at: usize) -> usize
+    ensures { result ≡ wrap y at }
 {
-    let blocks = s.layout().blocks;
-    if at < blocks { at } else { at - blocks }
+    if at < y.blocks { at } else { at - y.blocks }
 }
 
 // A block joins the ring, with its mark.
@@ -28,7 +28,7 @@ fn push<R: Run>(s: &mut Scratch<'_, R>, ring: Ring, block: usize) -> Ring
     ensures { Pushes R.layout block s.old ring s.new result }
 {
     s.put(Cell::Queued, block, 1);
-    let at = wrapped(s, ring.head + ring.count);
+    let at = wrapped(s.layout(), ring.head + ring.count);
     s.put(Cell::Ring, at, block as u64);
     Ring {
         head: ring.head,

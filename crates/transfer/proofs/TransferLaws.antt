@@ -60,7 +60,7 @@ stores-then m k x f same {m₁} e = go (dec_lt k (length m))
 -- ---- the row of a predecessor, whose word in REACHABLE is g
 module _ (m t : Mem) (p : ℕ) (x : List ℕ) {g : ℕ} (e : g ≡ word m reachable_cell p) where
   -- it is reachable
-  gather_reachable : (g ≡ 0 → ⊥) → meet x (cell t (initialized_row p)) ≡ gather_one Initialization m t p x
+  pub gather_reachable : (g ≡ 0 → ⊥) → meet x (cell t (initialized_row p)) ≡ gather_one Initialization m t p x
   unfolding gather_one
   gather_reachable ne = rw (ne_eqb (word m reachable_cell p) 0 (λ q. ne (e ∙ q))) refl
 
@@ -83,11 +83,11 @@ module _ (d : Direction) (y : Layout) (m : Mem) (x : List ℕ) where
   row_other k h = cell-store_other m (running_row d y) x k (λ q. omega (arith, (running-at d y).0))
 
   -- so do the edges
-  row_edges : SameEdges m (store_cell m (running_row d y) x)
+  pub row_edges : SameEdges m (store_cell m (running_row d y) x)
   row_edges = same_row m (running_row d y) x (omega (arith, (running-at d y).0))
 
 -- the edges after the running row is stored
-stored-edges : (d : Direction) (y : Layout) {m m₁ : Mem} (x : List ℕ) → m₁ ≡ store_cell m (running_row d y) x → SameEdges m m₁
+pub stored-edges : (d : Direction) (y : Layout) {m m₁ : Mem} (x : List ℕ) → m₁ ≡ store_cell m (running_row d y) x → SameEdges m m₁
 stored-edges d y {m} x e = subst (SameEdges m) (sym e) (row_edges d y m x)
 
 -- a neighbor's row is gathered as before
@@ -127,16 +127,16 @@ pub record Gathering (d : Direction) (y : Layout) (m t : Mem) (qs ps : List ℕ)
   pub rest : gather_all d m t ps row ≡ gather_all d m t qs (cell m (running_row d y))
 
 -- before the first of them
-gathering-none : {d : Direction} {y : Layout} {m t : Mem} {qs : List ℕ} → Gathering d y m t qs qs m
+pub gathering-none : {d : Direction} {y : Layout} {m t : Mem} {qs : List ℕ} → Gathering d y m t qs qs m
 gathering-none {d} {y} {m} = record { row = cell m (running_row d y); same = sym (set-get_or m (running_row d y) []); rest = refl }
 
 module _ {d : Direction} {y : Layout} {m t : Mem} {qs ps : List ℕ} {m₁ : Mem} (g : Gathering d y m t qs ps m₁) where
   -- the edges are as they were
-  gathering_edges : SameEdges m m₁
+  pub gathering_edges : SameEdges m m₁
   gathering_edges = stored-edges d y g.row g.same
 
   -- the row of the first that is left is gathered
-  gathering_more : {p : ℕ} {rs : List ℕ} {m₂ : Mem} → ps ≡ p ∷ rs
+  pub gathering_more : {p : ℕ} {rs : List ℕ} {m₂ : Mem} → ps ≡ p ∷ rs
       → m₂ ≡ store_cell m₁ (running_row d y) (gather_one d m₁ t p (cell m₁ (running_row d y))) → Gathering d y m t qs rs m₂
   unfolding gather_all
   gathering_more {p} ep e₂ = record {
@@ -146,7 +146,7 @@ module _ {d : Direction} {y : Layout} {m t : Mem} {qs ps : List ℕ} {m₁ : Mem
   }
 
   -- none is left
-  gathering_all : ps ≡ [] → m₁ ≡ store_cell m (running_row d y) (gather_all d m t qs (cell m (running_row d y)))
+  pub gathering_all : ps ≡ [] → m₁ ≡ store_cell m (running_row d y) (gather_all d m t qs (cell m (running_row d y)))
   unfolding gather_all
   gathering_all ep =
       g.same ∙ ap (store_cell m (running_row d y)) (sym (ap (λ (l : List ℕ). gather_all d m t l g.row) ep) ∙ g.rest)
@@ -237,7 +237,7 @@ module _ (d : Direction) (y : Layout) (m t : Mem) (b : ℕ) where
       (sym (neighbors-none (reads_of d) m b (sym en ∙ z)))
 
   -- it begins with the first neighbor, then the others are gathered
-  gathers : {p : ℕ} {ps qs : List ℕ} {m₁ m₂ : Mem} → neighbors (reads_of d) m b ≡ p ∷ ps → qs ≡ ps
+  pub gathers : {p : ℕ} {ps qs : List ℕ} {m₁ m₂ : Mem} → neighbors (reads_of d) m b ≡ p ∷ ps → qs ≡ ps
       → m₁ ≡ store_cell m (running_row d y) (gather_one d m t p (entry_of d y m b))
       → m₂ ≡ store_cell m₁ (running_row d y) (gather_all d m₁ t qs (cell m₁ (running_row d y)))
       → m₂ ≡ store_cell m (running_row d y) (gathered d y m t b)

@@ -26,19 +26,19 @@ pub remove_output-requires : goal.remove_output-requires
 remove_output-requires g c =
     let v = c.instruction-instruction in
     let r = noted_read c.requires.0 c.args.pc c.requires.1 c.get-at.ensures.is c.instruction_at.ensures v.result v.ensures.kind_is v.ensures.fields_are in
-    r.output_below
+    (tt, r.output_below)
 
 pub insert_inputs-requires : goal.insert_inputs-requires
 insert_inputs-requires g c =
     let v = c.instruction-instruction in
     let r = noted_read c.requires.0 c.args.pc c.requires.1 c.get-at.ensures.is c.instruction_at.ensures v.result v.ensures.kind_is v.ensures.fields_are in
-    subst (AllBelow (64 * g.R.Run.layout.words)) (sym c.inputs.ensures) r.inputs_below
+    (tt, subst (AllBelow (64 * g.R.Run.layout.words)) (sym c.inputs.ensures) r.inputs_below)
 
 pub check_point-requires : goal.check_point-requires
 check_point-requires g c =
     let v = c.instruction-instruction in
     let r = noted_read c.requires.0 c.args.pc c.requires.1 c.get-at.ensures.is c.instruction_at.ensures v.result v.ensures.kind_is v.ensures.fields_are in
-    (λ q. c.requires.2 (r.await_is ∙ q), c.requires.3)
+    (λ q. c.requires.2 (r.await_is ∙ (rw c.number.ensures at q)), c.requires.3)
 
 pub returns : goal.returns
 returns g c =
@@ -50,4 +50,4 @@ returns g c =
     instruction_met a.sheet.now.bytes.now a.sheet.now.script g.R.Run.layout g.R.Run.limits a.meter a.pc a.place a.s.now a.t.now pre.0 _ paid
     c.in_ok-left.ensures c.get-cost.ensures.whole _ _ r.outputs_are (r.inputs_are ∙ sym c.inputs.ensures) r.output_below
     (subst (AllBelow (64 * g.R.Run.layout.words)) (sym c.inputs.ensures) r.inputs_below) _ _ c.remove_output.ensures c.insert_inputs.ensures
-    _ r.await_is (λ q. omega (arith, pre.2 (r.await_is ∙ q), pre.3)) _ _ c.check_point.ensures
+    _ r.await_is (λ q. omega (arith, pre.2 (r.await_is ∙ q), pre.3)) _ _ (rw c.number.ensures at c.check_point.ensures)

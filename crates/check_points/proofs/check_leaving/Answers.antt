@@ -12,7 +12,7 @@ gather-requires g c =
 
 pub overflow_add-next : goal.overflow_add-next
 overflow_add-next g c =
-    omega (arith, c.requires.room, g.R.Run.bounded.awaits)
+    omega (arith, c.requires.room, c.layout-2.ensures.bounded.awaits)
 
 pub check_awaits-requires : goal.check_awaits-requires
 check_awaits-requires g c =

@@ -1,7 +1,6 @@
 -- `graph::graph` meets its contract. Assumes nothing.
 use Rattle.std.proofs.Common.{rules, refl}
 use Rattle.graph.proofs.GraphLaws.{graphed_refused, indexes, build_ready, build_bounded, graphed_on}
-use Rattle.instructions.proofs.Sound.{sound}
 use Rattle.graph.proofs.graph.Goals as goal
 
 pub returns-in_err-layout : goal.returns-in_err-layout
@@ -18,7 +17,8 @@ build-requires c = (
   record { named = refl; long = refl },
   (indexes c.in_ok-layout.ensures).room.fits,
   (indexes c.in_ok-layout.ensures).sets_room.fits,
-  build_ready c.in_ok-layout.ensures (sound _ _ c.args.sheet.now.passed),
+  (indexes c.in_ok-layout.ensures).sets_room.awaits,
+  build_ready c.in_ok-layout.ensures c.args.sheet.now.sound,
 )
 
 pub returns : goal.returns

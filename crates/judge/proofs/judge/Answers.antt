@@ -1,13 +1,12 @@
 -- `judge::judge` meets its contract. Assumes nothing.
 use Rattle.std.proofs.Common.{refl, arith, rules}
 use Rattle.std.proofs.lemmas.Result.{err_from_is_err_and}
-use Rattle.instructions.proofs.Sound.{sound}
-use Rattle.judge.proofs.JudgeLaws.{judges_short, judges_refused, layout_bounded, scratch_enough, sets_enough, solve_begun, judges_on}
+use Rattle.judge.proofs.JudgeLaws.{judges_short, judges_refused, layout_bounded, scratch_enough, awaits_few, sets_enough, solve_begun, judges_on}
 use Rattle.starts.proofs.StartLaws.{with_below}
 use Rattle.judge.proofs.judge.Goals as goal
 
 pub overflow_mul-sheet : goal.overflow_mul-sheet
-overflow_mul-sheet c = let ok = sound _ _ c.args.sheet.now.passed in omega (arith, ok.few_code)
+overflow_mul-sheet c = omega (arith, c.args.sheet.now.sound.few_code)
 
 pub returns-then-s-sheet : goal.returns-then-s-sheet
 returns-then-s-sheet c =
@@ -26,13 +25,14 @@ invariant_of-solve c = record {
 pub solve-requires : goal.solve-requires
 solve-requires c =
     let enough = c.if-s-sheet.false in
-    let ok = sound _ _ c.args.sheet.now.passed in (
+    let ok = c.args.sheet.now.sound in (
       refl,
       refl,
       record { named = refl; long = refl },
       record { named = refl; long = refl },
       scratch_enough _ _ _ _ _ _ _ _ (omega (arith, enough)) _ _ _ c.graph.ensures _ _ c.in_ok-layout.was,
       sets_enough _ _ _ _ _ _ _ _ (omega (arith, enough)) _ _ _ c.graph.ensures _ _ c.in_ok-layout.was (omega (arith, c.graph.auto.t)),
+      awaits_few _ _ _ _ _ _ _ _ (omega (arith, enough)) _ _ _ c.graph.ensures _ _ c.in_ok-layout.was,
       c.requires,
       solve_begun _ _ _ _ _ _ _ _ (omega (arith, enough)) _ _ _ c.graph.ensures _ _ c.in_ok-layout.was ok (with_below _ _ ok c.args.added.now),
     )

@@ -3,11 +3,15 @@ use Rattle.std.proofs.Common.{refl, ap, ◌∙◌, arith, length}
 use Rattle.std.proofs.lemmas.Result.{err_from_is_err_and}
 use lib.ListN.{length-set}
 use Rattle.memory.proofs.SetsLaws.{sets_count}
-use Rattle.blocks.proofs.BuildLaws.{building_none, building_more, built_over, built_all}
+use Rattle.blocks.proofs.BuildLaws.{building_none, building_ready, building_more, built_over, built_all}
 use Rattle.blocks.proofs.blocks.blocks.Goals as goal
 
 pub loop-index-init : goal.loop-index-init
 loop-index-init g c = record { long = refl; building = building_none }
+
+pub block-requires : goal.block-requires
+block-requires g c =
+    (building_ready c.requires c.loop-index.invariant.building, rw c.layout-index-end.ensures.is at c.loop-index-test.true)
 
 pub returns-in_err-left : goal.returns-in_err-left
 returns-in_err-left g c =

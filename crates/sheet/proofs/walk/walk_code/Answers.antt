@@ -2,14 +2,14 @@
 use Rattle.std.proofs.Common.{◌≡◌, refl, sym, ap, ◌∙◌, ℕ, suc, ◌+◌, ◌-◌, arith}
 use Rattle.std.proofs.lemmas.Result.{err_from_is_err_and}
 use Rattle.std.specs.Int.{from_bool}
-use Rattle.sheet.proofs.WalkLaws.{run_more, run_stop, run_end, read_passed, read_refused, walks_passed, walks_refused}
+use Rattle.sheet.proofs.WalkLaws.{run_start, run_more, run_stop, run_end, read_passed, read_refused, walks_passed, walks_refused}
 use Rattle.sheet.proofs.CodeLaws.{await_once, code_more, code_end}
 use Rattle.sheet.proofs.walk.walk_code.Goals as goal
 
 pub loop-init : goal.loop-init
 loop-init c =
     let q : c.args.counts.instructions ≡ c.args.counts.instructions - 0 = omega arith in
-    record { same_sheet = refl; few = omega arith; run = rw (sym q) (record { faults = refl; stops = refl }); code = rw (sym q) }
+    record { same_sheet = refl; few = omega arith; run = rw (sym q) run_start; code = rw (sym q) }
 
 pub returns-in_err-kind : goal.returns-in_err-kind
 returns-in_err-kind c =

@@ -4,4 +4,4 @@ use Rattle.solver.proofs.RingLaws.{wrap-lt}
 use Rattle.solver.proofs.ring.push.Goals as goal
 
 pub put-requires-2 : goal.put-requires-2
-put-requires-2 g c = rw c.wrapped-at.ensures (wrap-lt g.R.Run.layout _ (omega arith))
+put-requires-2 g c = rw (c.wrapped-at.ensures, c.layout.ensures.is) (wrap-lt g.R.Run.layout _ (omega arith))
