@@ -17,6 +17,7 @@ use instructions::placed;
 use memory::names::{Cell, SlotRow};
 use memory::scratch::Scratch;
 use memory::sets::Sets;
+use memory::views::ScratchView;
 use operands::kinds;
 use run::Run;
 use run::meter::Meter;
@@ -51,7 +52,7 @@ pub fn check_awaits<R: Run>(
 // The costs from start to end, from the back: all that is charged where there is no await. Most blocks take this loop, so it reads no instruction.
 #[tactic(auto, unfolding(crate::specs::Awaits::back_run))]
 pub fn charge_back<R: Run>(
-    s: &Scratch<'_, R>,
+    s: &ScratchView<'_, R>,
     start: usize,
     end: usize,
     place: usize,
@@ -87,7 +88,7 @@ fn check_instruction<R: Run>(
     slots::remove_output(s, SlotRow::LiveState, instruction);
     slots::insert_inputs(s, SlotRow::LiveState, instruction.inputs());
     check_point(
-        s,
+        &s.view(),
         t,
         sheet.script.slots,
         instruction.kind.number(),
@@ -99,7 +100,7 @@ fn check_instruction<R: Run>(
 
 // An instruction that is no await passes.
 pub fn check_point<R: Run>(
-    s: &Scratch<'_, R>,
+    s: &ScratchView<'_, R>,
     t: &mut Sets<'_, R>,
     slots: usize,
     kind: usize,
@@ -118,7 +119,7 @@ pub fn check_point<R: Run>(
 
 // An await: the slot count is charged, then 14, then its facts are retained, 15, and put.
 fn check_await<R: Run>(
-    s: &Scratch<'_, R>,
+    s: &ScratchView<'_, R>,
     t: &mut Sets<'_, R>,
     slots: usize,
     pc: usize,

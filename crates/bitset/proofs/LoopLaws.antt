@@ -41,6 +41,11 @@ made-zipped {f} {l} {d} {m} {s} {w} h =
       each = λ k i. get_or-zipped f (row l d w) (row m s w) k (omega arith) ∙ ap₂ f (get_or-row l d w k i) (get_or-row m s w k i);
     }
 
+-- a row itself, where f is its second argument
+pub made_row : {l : List ℕ} {d : ℕ} {m : List ℕ} {s w : ℕ} → d + w ≤ length l → s + w ≤ length m → Made (λ x y. y) l d m s w (row m s w)
+made_row {l} {d} {m} {s} {w} h g =
+    record { room = h; size = length-row m s w g; each = λ k i. get_or-row m s w k i }
+
 module _ {f : ℕ → ℕ → ℕ} {l : List ℕ} {d : ℕ} {m : List ℕ} {s w : ℕ} {z : List ℕ} (made : Made f l d m s w z) where
   -- the slice after k turns, as the library has it
   pasted : (k : ℕ) → k ≤ w → patched l d (take k z) ≡ paste l d z k

@@ -57,8 +57,22 @@ progress_fewer f same (x ∷ xs) (y ∷ ys) zero h = absurd (omega arith)
 progress_fewer f same (x ∷ xs) [] (suc k) h = ap (λ (l : List ℕ). f x 0 ∷ l) (progress_fewer f same xs [] k (omega arith))
 progress_fewer f same (x ∷ xs) (y ∷ ys) (suc k) h = ap (λ (l : List ℕ). f x y ∷ l) (progress_fewer f same xs ys k (omega arith))
 
--- ---- the loops of `meet` and `join`
+-- where f is its second argument, and the lists are as long, ys is left
+zipped_second : (xs ys : List ℕ) → length xs ≡ length ys → zipped (λ x y. y) xs ys ≡ ys
+unfolding zipped
+zipped_second [] [] h = refl
+zipped_second [] (y ∷ ys) h = absurd (omega arith)
+zipped_second (x ∷ xs) [] h = absurd (omega arith)
+zipped_second (x ∷ xs) (y ∷ ys) h = ap (λ (l : List ℕ). y ∷ l) (zipped_second xs ys (omega arith))
+
+-- ---- the loops of `copy`, `meet` and `join`
 module _ (xs ys : List ℕ) (k : ℕ) where
+  pub copy_more : k < length xs → set (progress (λ x y. y) xs ys k) k (get_or ys k 0) ≡ progress (λ x y. y) xs ys (k + 1)
+  copy_more = progress_more (λ x y. y) xs ys k
+
+  pub copy_all : length xs ≡ length ys → length xs ≤ k → progress (λ x y. y) xs ys k ≡ ys
+  copy_all e h = progress_all (λ x y. y) xs ys k h ∙ zipped_second xs ys e
+
   pub meet_more : k < length xs
       → set (progress bit_and xs ys k) k (bit_and (get_or (progress bit_and xs ys k) k 0) (get_or ys k 0)) ≡ progress bit_and xs ys (k + 1)
   meet_more = progress_more bit_and xs ys k

@@ -36,8 +36,20 @@ pub fn remove(set: &mut [u64], slot: usize)
     set[slot / 64] &= !(1 << (slot % 64));
 }
 
-// The set keeps what is also in another, which has as many words at least. `meet`, `join`, `same`, `common` and `within` are each a loop of one line:
-// one function over the operation on a word would be that line again in each, as a closure, and what the closure promises besides.
+// The set becomes another of as many words. It is a loop and not std's `copy_from_slice`, which calls `memmove`: an archive for C asks its host for
+// `memset` alone.
+#[tactic(auto, using(crate::proofs::ZipLaws::progress_none, crate::proofs::ZipLaws::copy_more, crate::proofs::ZipLaws::copy_all))]
+pub fn copy(set: &mut [u64], other: &[u64])
+    requires { length set.old ≡ length other.now }
+    ensures { set.new ≡ other.now }
+{
+    for (k, word) in set.iter_mut().enumerate() {
+        *word = other[k];
+    }
+}
+
+// The set keeps what is also in another, which has as many words at least. `copy`, `meet`, `join`, `same`, `common` and `within` are each a loop of one
+// line: one function over the operation on a word would be that line again in each, as a closure, and what the closure promises besides.
 #[tactic(auto, using(crate::proofs::ZipLaws::progress_none, crate::proofs::ZipLaws::meet_more, crate::proofs::ZipLaws::meet_all))]
 pub fn meet(set: &mut [u64], other: &[u64])
     requires { length set.old ≤ length other.now }
@@ -59,7 +71,17 @@ pub fn join(set: &mut [u64], other: &[u64])
     }
 }
 
-// The row at d takes in what is in the row at s of the same slice. This and the next are no `join` of two slices, as both rows cannot be lent at once.
+// The row at d becomes the row at s of the same slice. This and the next two are of no two slices, as both rows cannot be lent at once.
+pub fn copy_within(words: &mut [u64], d: usize, s: usize, w: usize)
+    requires { (d + w ≤ length words.old) × (s + w ≤ length words.old) × Apart d s w }
+    ensures { words.new ≡ patched words.old d (row words.old s w) }
+{
+    for k in 0..w {
+        words[d + k] = words[s + k];
+    }
+}
+
+// The row at d takes in what is in the row at s of the same slice.
 pub fn join_within(words: &mut [u64], d: usize, s: usize, w: usize)
     requires { (d + w ≤ length words.old) × (s + w ≤ length words.old) × Apart d s w }
     ensures { words.new ≡ patched words.old d (join (row words.old d w) (row words.old s w)) }

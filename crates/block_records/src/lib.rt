@@ -6,7 +6,7 @@ ghost use Rattle.block_records.specs.Records.{block_in};
 
 use blocklist::Listed;
 use memory::names::Cell;
-use memory::scratch::Scratch;
+use memory::views::ScratchView;
 use run::Run;
 
 // A block: where it begins and ends, whether a path reaches it (0 or 1), how many successors it has, and which blocks they are, unused ones 0.
@@ -34,7 +34,7 @@ impl Listed for Block {
     ghost listed = { listed_block };
 
     #[tactic(auto, unfolding(crate::specs::Records::listed_block))]
-    fn element<R: Run>(s: &Scratch<'_, R>, i: usize) -> Block {
+    fn element<R: Run>(s: &ScratchView<'_, R>, i: usize) -> Block {
         if i < s.layout().blocks {
             return block_at(s, i);
         }
@@ -45,7 +45,7 @@ impl Listed for Block {
 }
 
 // A block from its words.
-fn block_at<R: Run>(s: &Scratch<'_, R>, i: usize) -> Block
+fn block_at<R: Run>(s: &ScratchView<'_, R>, i: usize) -> Block
     requires { i < R.layout.blocks }
     ensures { result ≡ block_in s.now i }
 {

@@ -6,7 +6,7 @@ ghost use Rattle.dataflow.specs.Lists.{tabulate};
 ghost use Rattle.blocklist.specs.List.{record_in};
 
 use memory::names::Cell;
-use memory::scratch::Scratch;
+use memory::views::ScratchView;
 use run::Run;
 
 // What a block list is a slice of.
@@ -23,7 +23,7 @@ pub trait Listed: Copy {
     ghost listed: { Mem → ℕ → ℕ → Self };
 
     // Element i of the list: of a block's record, or zero behind the last one.
-    fn element<R: Run>(s: &Scratch<'_, R>, i: usize) -> Self
+    fn element<R: Run>(s: &ScratchView<'_, R>, i: usize) -> Self
         ensures { result ≡ listed s.now R.layout.blocks i };
 
     ghost some: { 0 < PER_RECORD };
@@ -31,7 +31,7 @@ pub trait Listed: Copy {
 
 // Each element of the list.
 #[tactic(auto, using(crate::proofs::Filled::filled_none, crate::proofs::Filled::filled_step, crate::proofs::Filled::filled_all))]
-pub fn fill<T: Listed, R: Run>(list: &mut [T], s: &Scratch<'_, R>)
+pub fn fill<T: Listed, R: Run>(list: &mut [T], s: &ScratchView<'_, R>)
     ensures { list.new ≡ tabulate 0 (length list.old) (T.listed s.now R.layout.blocks) }
 {
     for (i, element) in list.iter_mut().enumerate() {
@@ -51,7 +51,7 @@ impl Listed for u64 {
     ghost listed = { list_word };
 
     #[tactic(auto, unfolding(crate::specs::List::list_word))]
-    fn element<R: Run>(s: &Scratch<'_, R>, k: usize) -> u64 {
+    fn element<R: Run>(s: &ScratchView<'_, R>, k: usize) -> u64 {
         let block = k / 6;
         if block < s.layout().blocks {
             return field(s, block, k % 6);
@@ -63,7 +63,7 @@ impl Listed for u64 {
 }
 
 // Field k of a block's record.
-fn field<R: Run>(s: &Scratch<'_, R>, block: usize, k: usize) -> u64
+fn field<R: Run>(s: &ScratchView<'_, R>, block: usize, k: usize) -> u64
     requires { (block < R.layout.blocks) × (k < 6) }
     ensures { result ≡ get_or (record_in s.now block) k 0 }
 {

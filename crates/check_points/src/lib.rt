@@ -71,7 +71,7 @@ fn check_reached<R: Run>(
 {
     // Both buffers are whole, as `layout` says.
     let _ = (s.layout(), t.layout());
-    compute::gather(s, t, Direction::Initialization, block);
+    compute::gather(s, &t.view(), Direction::Initialization, block);
     let start = s.get(Cell::Start, block) as usize;
     let end = s.get(Cell::End, block) as usize;
     let (found, left) = reads::block_reads(sheet, s, block, start, end, meter)?;
@@ -94,7 +94,7 @@ fn check_found<R: Run>(
     ensures { FoundChecked sheet.now.bytes.now (held_set R.layout s.old) sheet.now.script R.layout R.limits meter block place found s.old s.new t.old t.new result }
 {
     if found == 0 {
-        return awaits::charge_back(s, start, end, place, meter);
+        return awaits::charge_back(&s.view(), start, end, place, meter);
     }
     check_leaving(sheet, s, t, block, start, end, place, found, meter)
 }
@@ -116,7 +116,7 @@ fn check_leaving<R: Run>(
 {
     // Both buffers are whole, as `layout` says.
     let _ = (s.layout(), t.layout());
-    compute::gather(s, t, Direction::Liveness, block);
+    compute::gather(s, &t.view(), Direction::Liveness, block);
     let next = place + found;
     let (_, left) = awaits::check_awaits(sheet, s, t, start, end, next, meter)?;
     Ok((next, left))

@@ -5,7 +5,6 @@ ghost use Rattle.std.specs.Prelude.{◌≡◌, ◌≤◌, length, MatchOption};
 ghost use Rattle.dataflow.specs.Lists.{tabulate};
 ghost use Rattle.budget.specs.Budget.{todays, counted};
 ghost use Rattle.sizes.specs.Sizes.{scratch_words};
-ghost use Rattle.memory.specs.Buffer.{Lends};
 ghost use Rattle.memory.specs.Scratch.{scratch};
 ghost use Rattle.answers.specs.Answers.{outcome_by};
 ghost use Rattle.flow.specs.Call.{Own, With, Called};
@@ -13,12 +12,10 @@ ghost use Rattle.flow.specs.Call.{Own, With, Called};
 use answers::{Answer, AnswerWithin};
 use blocklist::Listed;
 use budget::{FlowBudget, Limits};
-use memory::buffer::Buffer;
-use memory::scratch::Scratch;
+use memory::views::ScratchView;
 use run::Run;
 use run::terms::Terms;
 use std::marker::Brand;
-use std::mem;
 
 // Any bytes, any budget, any buffers. `blocks` takes the block records; `sets` takes both sets of each block and the set of each reached await;
 // `scratch` is zero at the end. After a refusal all three are zero.
@@ -87,22 +84,16 @@ fn call<T: Listed>(
     let records = blocks.len() / T::PER_RECORD;
     let examined = added::examine(sheet, added, limits, budget, scratch, sets, records);
     let layout = answers::layout_of(examined);
-    let mut lent = Buffer {
-        words: &mut *scratch,
-    };
-    list::<T, Brand>(blocks, &mut lent, Terms { layout });
+    list::<T, Brand>(blocks, scratch, Terms { layout });
     scratch.fill(0);
     let answer = answers::answer_of(examined);
     AnswerWithin { answer, limits }
 }
 
 // The block list, from the words of scratch as they have this layout.
-fn list<T: Listed, R: Run>(blocks: &mut [T], lent: &mut Buffer<'_>, terms: Terms)
-    requires { (terms.layout ≡ R.layout) × Lends R.scratch lent.old.words × (scratch_words terms.layout ≤ length lent.old.words.now) }
-    ensures listed { blocks.new ≡ tabulate 0 (length blocks.old) (T.listed (scratch terms.layout lent.old.words.now) terms.layout.blocks) }
-    ensures lent { Lends R.scratch lent.new.words }
+fn list<T: Listed, R: Run>(blocks: &mut [T], words: &[u64], terms: Terms)
+    requires { (terms.layout ≡ R.layout) × (scratch_words terms.layout ≤ length words.now) }
+    ensures { blocks.new ≡ tabulate 0 (length blocks.old) (T.listed (scratch terms.layout words.now) terms.layout.blocks) }
 {
-    let s = Scratch::<R>::new(mem::take(&mut lent.words), terms);
-    blocklist::fill(blocks, &s);
-    lent.words = s.into_words();
+    blocklist::fill(blocks, &ScratchView::<R>::new(words, terms));
 }

@@ -85,6 +85,14 @@ fn field_fits(role: Role, x: u32, counts: Counts) -> bool
         || (x == ABSENT && matches!(role, Role::OptionalInput | Role::OptionalOutput))
 }
 
+// Whether one of the fields of `Rest` is at or above a bound. Most instructions have none, which one comparison tells.
+#[tactic(auto, unfolding(crate::specs::Fields::any_above))]
+fn rest_above(rest: &[[u8; 4]], bound: usize) -> bool
+    ensures { result ≡ any_above bound (map number_in rest.now) }
+{
+    !rest.is_empty() && any_above(rest, bound)
+}
+
 // Whether every field of an instruction fits: the single ones, then those of `Rest`.
 fn all_fit(i: Instruction<'_>, counts: Counts) -> bool
     ensures { result ≡ true → FaultsIn (kind_number i.entry.kind) (values_of i.entry) counts.slots counts.instructions no_faults }
@@ -96,7 +104,7 @@ fn all_fit(i: Instruction<'_>, counts: Counts) -> bool
         bytes::number(*field),
         counts,
     ));
-    single_fit && !any_above(rest, counts.slots)
+    single_fit && !rest_above(rest, counts.slots)
 }
 
 // What is wrong with the fields of an instruction. Only where one does not fit is each looked at for its fault.
@@ -109,7 +117,9 @@ pub fn field_faults(i: Instruction<'_>, counts: Counts) -> Faults
     faults_among(i, counts)
 }
 
-// The same, by looking at every field.
+// The same, by looking at every field. Seldom called, and not put into the loop over the instructions, which then has more registers.
+#[cold]
+#[inline(never)]
 #[tactic(auto, using(crate::proofs::FieldLaws::faults_end), unfolding(crate::specs::Fields::any_field))]
 fn faults_among(i: Instruction<'_>, counts: Counts) -> Faults
     ensures { FaultsIn (kind_number i.entry.kind) (values_of i.entry) counts.slots counts.instructions result }

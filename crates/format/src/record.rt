@@ -25,10 +25,10 @@ pub fn record_at<'a>(s: &'a [u8], at: usize) -> Option<Record<'a>>
     if length < 2 || s.len() - at < 2 + length {
         return None;
     }
-    let next = at + 2 + length;
     Some(Record {
         kind: bytes::u16_at(s, at + 2),
-        body: &s[at + 4..next],
-        next,
+        // cut by its length: cut at `next`, its length is counted again from the two offsets
+        body: &s[at + 4..][..length - 2],
+        next: at + 2 + length,
     })
 }

@@ -4,11 +4,10 @@ use mathlib.Core.List.{List, ◌∷◌, ◌++◌}
 use Prim.Native.Nat.{ℕ, ◌+◌, ◌-◌, ◌^◌, ◌≤◌, ◌<◌}
 use Rattle.std.proofs.Common.{arith}
 use lib.ListN.{length, take, drop, get_or, set}
-use lib.Seq.{paste}
 use Rattle.bitset.specs.Operations.{join, difference}
 use Rattle.bitset.specs.Rows.{row, patched, Apart}
 use Rattle.sizes.specs.declared.Layout.{Layout}
-use Rattle.run.specs.Terms.{Loan, SetsBounded}
+use Rattle.run.specs.Terms.{SetsBounded}
 use Rattle.sizes.specs.Sizes.{scratch_words, sets_words}
 use Rattle.memory.specs.declared.names.Cell.{Cell}
 use Rattle.memory.specs.declared.names.SlotRow.{SlotRow}
@@ -16,16 +15,16 @@ use Rattle.memory.specs.declared.names.BlockSet.{BlockSet}
 use Rattle.memory.specs.Cells.{Mem, InWords, total, cell, word, store, store_cell, Covers}
 use Rattle.memory.specs.Names.{await_entry}
 use Rattle.memory.specs.Named.{cell_of, width_of, row_of, set_of, RowThere, SetThere}
-use Rattle.memory.specs.Scratch.{scratch, scratch_widths, Whole, Backs, Row}
-use Rattle.memory.specs.Sets.{sets, sets_widths, SetsWhole, SetsBack, SetsRow}
+use Rattle.memory.specs.Scratch.{scratch, scratch_widths, Whole, Holds, Row}
+use Rattle.memory.specs.Sets.{sets, sets_widths, SetsWhole, SetsHold, SetsRow}
 use Rattle.memory.proofs.CellLaws.{width}
-use Rattle.memory.proofs.ScratchLaws.{scratch_fits, scratch_sized, scratch_in_words, words_below, place_inside, place_word, place_store, cell_long, cell_put, cell_copied}
-use Rattle.memory.proofs.ScratchLaws.{row_is, row_long, row_put, row_copied, rows_apart, rows_joined, rows_replaced}
+use Rattle.memory.proofs.ScratchLaws.{scratch_fits, scratch_sized, scratch_in_words, words_below, place_inside, place_word, place_store, cell_long, cell_put, cell_copied, cells_lie_apart}
+use Rattle.memory.proofs.ScratchLaws.{row_is, row_long, row_put, rows_apart, rows_copied, rows_joined, rows_replaced}
 use Rattle.memory.proofs.SetsLaws.{sets_sized, sets_in_words, sets_row_is, sets_row_long, sets_row_put, entry_put}
 use Rattle.memory.proofs.NamedLaws.{cell_place, cell_width, row_there, set_there, entry_there}
 
 -- ---- scratch: the words l, which a contract sees as the cells m
-module _ {y own : Layout} {loan : Loan} {name : ℕ} {m : Mem} (l : List ℕ) (b : Backs y own loan name (length l)) (see : scratch own l ≡ m) where
+module _ {y own : Layout} {m : Mem} (l : List ℕ) (b : Holds y own (length l)) (see : scratch own l ≡ m) where
   pub backed_whole : Whole y m
   backed_whole = rw (← see, ← b.same) (scratch_sized l b.room)
 
@@ -69,17 +68,19 @@ module _ {y own : Layout} {loan : Loan} {name : ℕ} {m : Mem} (l : List ℕ) (b
         → scratch own (take start l ++ (ys ++ drop (end - start) (drop start l))) ≡ store_cell m (cell_of c) ys
     backed_put ys e = rw (← see) (cell_put l b.room whole-cell ys e)
 
-    pub backed_copy_room : (d : Cell) {at : ℕ} → at ≡ total (take (cell_of d) (scratch_widths own)) → width_of y d ≡ width_of y c
-        → at + (end - start) ≤ length l
-    backed_copy_room d e f =
-        let g : width_of own d ≡ width_of own c = rw b.same f in
-        omega (arith, v.ends, e, scratch_fits own (cell_of d), cell_width own d, g, b.room.fits)
+    -- a cell as wide, which begins at `at`
+    module _ (d : Cell) {at : ℕ} (e : at ≡ total (take (cell_of d) (scratch_widths own))) (f : width_of y d ≡ width_of y c) where
+      as-wide : width (scratch_widths own) (cell_of d) ≡ width (scratch_widths own) (cell_of c)
+      as-wide = let g : width_of own d ≡ width_of own c = rw b.same f in cell_width own d ∙ g ∙ sym (cell_width own c)
 
-    pub backed_copied : (d : Cell) {at : ℕ} → at ≡ total (take (cell_of d) (scratch_widths own)) → width_of y d ≡ width_of y c
-        → scratch own (paste l at (drop start l) (end - start)) ≡ store_cell m (cell_of d) (cell m (cell_of c))
-    backed_copied d e f =
-        let g : width_of own d ≡ width_of own c = rw b.same f in
-        rw (← see) (cell_copied l b.room whole-cell (cell_of d) e (cell_width own d ∙ g ∙ sym (cell_width own c)))
+      pub backed_copy_room : at + (end - start) ≤ length l
+      backed_copy_room = omega (arith, v.ends, e, scratch_fits own (cell_of d), as-wide, cell_width own c, b.room.fits)
+
+      pub backed_copy_apart : (cell_of d ≡ cell_of c → ⊥) → Apart at start (end - start)
+      backed_copy_apart ne = cells_lie_apart l b.room whole-cell (cell_of d) e as-wide ne
+
+      pub backed_copied : scratch own (patched l at (row l start (end - start))) ≡ store_cell m (cell_of d) (cell m (cell_of c))
+      backed_copied = rw (← see) (cell_copied l b.room whole-cell (cell_of d) e as-wide)
 
   -- a row by the range of its words
   module _ (r : SlotRow) (h : RowThere y r) where
@@ -104,8 +105,8 @@ module _ {y own : Layout} {loan : Loan} {name : ℕ} {m : Mem} (l : List ℕ) (b
     pub backed_apart : (row_of y d ≡ row_of y k → ⊥) → Apart a from own.words
     backed_apart ne = rows_apart l b.room (row-there d g) (row-there k h) v w (rw b.same ne)
 
-    pub backed_row_copied : scratch own (paste l a (drop from l) (end - from)) ≡ store_cell m (row_of y d) (cell m (row_of y k))
-    backed_row_copied = rw (← see, ← b.same) (row_copied l b.room (row-there k h) w (row-there d g) v)
+    pub backed_row_copied : scratch own (patched l a (row l from own.words)) ≡ store_cell m (row_of y d) (cell m (row_of y k))
+    backed_row_copied = rw (← see, ← b.same) (rows_copied l b.room (row-there d g) (row-there k h) v w)
 
     pub backed_joined : scratch own (patched l a (join (row l a own.words) (row l from own.words))) ≡ store_cell m (row_of y d) (join (cell m (row_of y d)) (cell m (row_of y k)))
     backed_joined = rw (← see, ← b.same) (rows_joined l b.room (row-there d g) (row-there k h) v w)
@@ -119,7 +120,7 @@ module _ {y own : Layout} {loan : Loan} {name : ℕ} {m : Mem} (l : List ℕ) (b
 pub ruleset backed = (backed_end, backed_ordered)
 
 -- ---- the sets buffer as a run has it
-module _ {y own : Layout} {loan : Loan} {name : ℕ} {m : Mem} (l : List ℕ) (b : SetsBack y own loan name (length l)) (see : sets own l ≡ m) where
+module _ {y own : Layout} {m : Mem} (l : List ℕ) (b : SetsHold y own (length l)) (see : sets own l ≡ m) where
   pub sets_backed_bounded : SetsBounded y
   sets_backed_bounded = rw (← b.same) (record { blocks = b.room.blocks; words = b.room.words; awaits = b.room.awaits })
 

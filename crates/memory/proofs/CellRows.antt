@@ -1,12 +1,12 @@
 -- A cell as a row of the words: what `bitset` does to the row is done to the cell. Assumes nothing.
 use mathlib.Core.Logic.{◌≢◌}
 use mathlib.Core.Path.{◌≡◌, refl, sym, ap, ap₂, ◌∙◌}
-use mathlib.Core.List.{List, ◌++◌, append_assoc}
+use mathlib.Core.List.{List, ◌++◌}
 use Prim.Native.Nat.{ℕ, ◌+◌, ◌-◌, ◌/◌, ◌≤◌, ◌<◌}
 use native.Mathlib.Omega.{arith}
 use lib.Bits.{bit_and, bit_or}
 use lib.ListN.{length, take, drop, get_or, set, length-set}
-use lib.Seq.{drop-drop, paste}
+use lib.Seq.{drop-drop}
 use Rattle.bitset.specs.Sets.{ones, member}
 use Rattle.bitset.specs.Operations.{inserted, removed, zipped, join, difference}
 use Rattle.bitset.specs.Rows.{row, patched, Apart}
@@ -60,6 +60,21 @@ module _ {ns l : List ℕ} {k base w : ℕ} (p : Lies ns l k base w) where
     lies_removed e =
         lies_changed (λ x. removed x slot) (λ x. length_removed x slot) (e ∙ removed_row l base w slot lies_fits h)
 
+-- two cells of the same words
+module _ {ns l : List ℕ} {j k d s w : ℕ} (p : Lies ns l j d w) (q : Lies ns l k s w) where
+  -- have none in common
+  pub lies_apart : j ≢ k → Apart d s w
+  lies_apart ne = rw (p.begins, q.begins) (rw (p.wide, q.wide) at (cells-apart ns j k ne))
+
+  -- one becomes the other
+  pub lies_copied : cells ns (patched l d (row l s w)) ≡ store_cell (cells ns l) j (cell (cells ns l) k)
+  lies_copied =
+      lies_patched p (row l s w) (length-row l s w (lies_fits q)) refl ∙ ap (store_cell (cells ns l) j) (lies_row q)
+
+-- how wide what a range covers is
+pub ends_at : {ns : List ℕ} {k w n start end : ℕ} → Covers ns k w n start end → end - start ≡ w
+ends_at c = omega (arith, c.ends)
+
 -- a cell by the range of its words, in the forms that the code has: `&l[start..end]`, and l after a write to `&mut l[start..end]`
 module _ {ns : List ℕ} (l : List ℕ) {k w n start end : ℕ} (c : Covers ns k w n start end) (wide : width ns k ≡ w) (room : total ns ≤ length l) where
   pub covers_lies : Lies ns l k start w
@@ -76,17 +91,9 @@ module _ {ns : List ℕ} (l : List ℕ) {k w n start end : ℕ} (c : Covers ns k
       lies_patched covers_lies ys e
       (ap (λ (r : List ℕ). take start l ++ (ys ++ r)) (drop-drop (end - start) start l ∙ ap (λ (m : ℕ). drop m l) (omega arith)))
 
-  -- l after `l.copy_within(start..end, at)`, where cell j begins
-  pub covers_copied : {j at : ℕ} → Lies ns l j at w → cells ns (paste l at (drop start l) (end - start)) ≡ store_cell (cells ns l) j (cell (cells ns l) k)
-  unfolding row patched
-  covers_copied {j} {at} p =
-      lies_patched p (row l start w) long
-      (ap (paste l at (drop start l)) (omega arith) ∙ append_assoc (take at l) (take w (drop start l)) (drop (at + w) l)
-      ∙ ap (λ (m : ℕ). take at l ++ (take w (drop start l) ++ drop (at + m) l)) (sym long))
-      ∙ ap (store_cell (cells ns l) j) (lies_row covers_lies)
-    where
-      long : length (row l start w) ≡ w
-      long = length-row l start w (lies_fits covers_lies)
+  -- l after the words up to `end` were copied to `at`, where cell j begins
+  pub covers_copied : {j at : ℕ} → Lies ns l j at w → cells ns (patched l at (row l start (end - start))) ≡ store_cell (cells ns l) j (cell (cells ns l) k)
+  covers_copied {j} {at} p = rw (ends_at c) (lies_copied p covers_lies)
 
 -- with a cell of the same or of other words
 module _ {ns l ms t : List ℕ} {j k d s w : ℕ} (p : Lies ns l j d w) (q : Lies ms t k s w) where
@@ -96,12 +103,8 @@ module _ {ns l ms t : List ℕ} {j k d s w : ℕ} (p : Lies ns l j d w) (q : Lie
       lies_changed p (λ x. zipped f x (row t s w)) (λ x. length-zipped f x (row t s w)) e
       ∙ ap (λ (x : List ℕ). store_cell (cells ns l) j (zipped f (cell (cells ns l) j) x)) (lies_row q)
 
--- two cells of the same words
+-- two cells of the same words, as wide
 module _ {ns l : List ℕ} {j k d s w : ℕ} (p : Lies ns l j d w) (q : Lies ns l k s w) where
-  -- have none in common
-  pub lies_apart : j ≢ k → Apart d s w
-  lies_apart ne = rw (p.begins, q.begins) (rw (p.wide, q.wide) at (cells-apart ns j k ne))
-
   -- one takes in what is in the other
   pub lies_joined : cells ns (patched l d (join (row l d w) (row l s w))) ≡ store_cell (cells ns l) j (join (cell (cells ns l) j) (cell (cells ns l) k))
   lies_joined = lies_zipped p q bit_or refl

@@ -3,7 +3,6 @@ use mathlib.Core.Path.{◌≡◌, refl, sym, ap, ap₂, ◌∙◌}
 use mathlib.Core.List.{List, ◌++◌}
 use Prim.Native.Nat.{ℕ, ◌+◌, ◌-◌, ◌*◌, ◌^◌, ◌≤◌, ◌<◌}
 use Rattle.std.proofs.Common.{arith, rules}
-use lib.Seq.{paste}
 use lib.ListN.{length, take, drop, get_or, set, replicate, length-replicate, get_or-replicate, length-take, length-drop}
 use Rattle.bitset.specs.Sets.{Words}
 use Rattle.bitset.specs.Operations.{join, difference}
@@ -14,7 +13,7 @@ use Rattle.memory.specs.Scratch.{edge_words, scratch_widths, scratch_cells, scra
 use Rattle.sizes.specs.Sizes.{scratch_words}
 use Rattle.memory.proofs.CellLaws.{start, width, cell-fits, length-cells, cell_row, cell-words, word-store_same}
 use Rattle.memory.proofs.CellLaws.{sized, total-append, total-equal, start-equal, start_in, start_past, width_in, width_past}
-use Rattle.memory.proofs.CellRows.{Lies, lies_word, lies_stored, covers_lies, covers_row, covers_put, covers_copied, lies_apart, lies_joined, lies_replaced}
+use Rattle.memory.proofs.CellRows.{Lies, lies_word, lies_stored, covers_lies, covers_row, covers_put, covers_copied, ends_at, lies_apart, lies_copied, lies_joined, lies_replaced}
 
 product : {a b m n : ℕ} → a ≤ m → b ≤ n → a * b ≤ m * n
 product h g = search rules
@@ -206,11 +205,14 @@ module _ {y : Layout} (l : List ℕ) (room : Room y (length l)) where
     unfolding scratch
     cell_put ys e = covers_put l c refl enough ys (e ∙ cell_long)
 
-    -- cell d, which begins at `at`, becomes it
-    pub cell_copied : (d : ℕ) {at : ℕ} → at ≡ total (take d (scratch_widths y)) → width (scratch_widths y) d ≡ width (scratch_widths y) k
-        → scratch y (paste l at (drop start l) (end - start)) ≡ store_cell (scratch y l) d (cell (scratch y l) k)
-    unfolding scratch
-    cell_copied d e f = covers_copied l c refl enough (record { begins = e; wide = f; room = enough })
+    -- cell d, which begins at `at`, is as wide, and becomes it
+    module _ (d : ℕ) {at : ℕ} (e : at ≡ total (take d (scratch_widths y))) (f : width (scratch_widths y) d ≡ width (scratch_widths y) k) where
+      pub cells_lie_apart : (d ≡ k → ⊥) → Apart at start (end - start)
+      cells_lie_apart ne = rw (ends_at c) (lies_apart (cell_lies e (sym f)) (covers_lies l c refl enough) ne)
+
+      pub cell_copied : scratch y (patched l at (row l start (end - start))) ≡ store_cell (scratch y l) d (cell (scratch y l) k)
+      unfolding scratch
+      cell_copied = covers_copied l c refl enough (record { begins = e; wide = f; room = enough })
 
   module _ {k : ℕ} (r : Row y k) where
     -- row k, which begins at base, in the slice
@@ -231,12 +233,6 @@ module _ {y : Layout} (l : List ℕ) (room : Room y (length l)) where
       unfolding scratch
       row_put ys e = covers_put l c (width_row y k r) enough ys (e ∙ row_long)
 
-      -- row d becomes it
-      pub row_copied : {d at to : ℕ} → Row y d → Covers (scratch_widths y) d y.words (scratch_words y) at to
-          → scratch y (paste l at (drop start l) (end - start)) ≡ store_cell (scratch y l) d (cell (scratch y l) k)
-      unfolding scratch
-      row_copied {d} g e = covers_copied l c (width_row y k r) enough (covers_lies l e (width_row y d g) enough)
-
     pub row_length : length (cell (scratch y l) k) ≡ y.words
     row_length = sized_row y scratch_sized r
 
@@ -249,6 +245,10 @@ module _ {y : Layout} (l : List ℕ) (room : Room y (length l)) where
       (e : Covers (scratch_widths y) k y.words (scratch_words y) b end) where
     pub rows_apart : (d ≡ k → ⊥) → Apart a b y.words
     rows_apart = lies_apart (row_lies g c.starts) (row_lies r e.starts)
+
+    pub rows_copied : scratch y (patched l a (row l b y.words)) ≡ store_cell (scratch y l) d (cell (scratch y l) k)
+    unfolding scratch
+    rows_copied = lies_copied (row_lies g c.starts) (row_lies r e.starts)
 
     pub rows_joined : scratch y (patched l a (join (row l a y.words) (row l b y.words))) ≡ store_cell (scratch y l) d (join (cell (scratch y l) d) (cell (scratch y l) k))
     unfolding scratch

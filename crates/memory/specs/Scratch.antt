@@ -47,9 +47,13 @@ pub record Row (y : Layout) (k : ℕ) : Type 0 where
   pub low : first_row ≤ k
   pub high : k < scratch_cells y
 
--- n words, whose borrow has this name, are those that were lent for scratch; they have the run's layout, and are enough for it
-pub record Backs (y own : Layout) (loan : Loan) (name n : ℕ) : Type 0 where
+-- n words have the run's layout, and are enough for it
+pub record Holds (y own : Layout) (n : ℕ) : Type 0 where
   pub same : own ≡ y
+  pub room : Room own n
+
+-- they are those that were lent for scratch, whose borrow has this name
+pub record Backs (y own : Layout) (loan : Loan) (name n : ℕ) : Type 0 where
+  pub holds : Holds y own n
   pub named : name ≡ loan.name
   pub long : n ≡ loan.length
-  pub room : Room own n

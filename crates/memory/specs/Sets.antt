@@ -33,9 +33,13 @@ pub record AwaitEntry (y : Layout) (k : ℕ) : Type 0 where
   pub low : 2 * y.blocks ≤ k
   pub high : k < 2 * y.blocks + y.awaits
 
--- n words, whose borrow has this name, are those that were lent for the sets; they have the run's layout, and are enough for it
-pub record SetsBack (y own : Layout) (loan : Loan) (name n : ℕ) : Type 0 where
+-- n words have the run's layout, and are enough for it
+pub record SetsHold (y own : Layout) (n : ℕ) : Type 0 where
   pub same : own ≡ y
+  pub room : SetsRoom own n
+
+-- they are those that were lent for the sets, whose borrow has this name
+pub record SetsBack (y own : Layout) (loan : Loan) (name n : ℕ) : Type 0 where
+  pub holds : SetsHold y own n
   pub named : name ≡ loan.name
   pub long : n ≡ loan.length
-  pub room : SetsRoom own n

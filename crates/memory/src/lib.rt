@@ -7,3 +7,4 @@ pub mod layout;
 pub mod names;
 pub mod scratch;
 pub mod sets;
+pub mod views;

@@ -12,7 +12,7 @@ ghost use Rattle.sizes.specs.Sizes.{scratch_words};
 
 use crate::layout;
 use crate::names::{BlockSet, Cell, SlotRow};
-use crate::sets::Sets;
+use crate::views::{ScratchView, SetsView};
 use run::Run;
 use run::terms::Terms;
 use sizes::Layout;
@@ -60,14 +60,20 @@ impl<'a, R: Run> Scratch<'a, R> {
         words
     }
 
+    // Its cells by a shared borrow.
+    pub fn view(&self) -> ScratchView<'_, R>
+        ensures { result ≡ self.now }
+    {
+        ScratchView::new(self.words, self.terms)
+    }
+
     // The layout of its cells: each is as wide as it says.
     pub fn layout(&self) -> Layout
         ensures is { result ≡ R.layout }
         ensures whole { Whole R.layout self.now }
         ensures words { InWords self.now }
     {
-        layout::fit(self.words);
-        self.terms.layout
+        self.view().layout()
     }
 
     // Word i of a cell.
@@ -76,7 +82,7 @@ impl<'a, R: Run> Scratch<'a, R> {
         ensures is { result ≡ word self.now (cell_of cell) i }
         ensures whole { Whole R.layout self.now }
     {
-        self.words[layout::cell_start(self.terms, cell) + i]
+        self.view().get(cell, i)
     }
 
     // It becomes v.
@@ -101,9 +107,12 @@ impl<'a, R: Run> Scratch<'a, R> {
         requires { (width_of R.layout into ≡ width_of R.layout from) × (cell_of into ≡ cell_of from → ⊥) }
         ensures { self.new ≡ store_cell self.old (cell_of into) (cell self.old (cell_of from)) }
     {
-        self.words.copy_within(
-            layout::cell_words(self.terms, from),
+        let k = layout::cell_words(self.terms, from);
+        bitset::copy_within(
+            self.words,
             layout::cell_start(self.terms, into),
+            k.start,
+            k.end - k.start,
         );
     }
 
@@ -113,7 +122,7 @@ impl<'a, R: Run> Scratch<'a, R> {
         ensures is { result.now ≡ cell self.now (row_of R.layout row) }
         ensures long { length result.now ≡ R.layout.words }
     {
-        &self.words[layout::row_words(self.terms, row)]
+        self.view().row(row)
     }
 
     // Word i of a row.
@@ -121,7 +130,7 @@ impl<'a, R: Run> Scratch<'a, R> {
         requires { RowThere R.layout row × (i < R.layout.words) }
         ensures { result ≡ word self.now (row_of R.layout row) i }
     {
-        self.row(row)[i]
+        self.view().row_word(row, i)
     }
 
     // It becomes v.
@@ -137,7 +146,7 @@ impl<'a, R: Run> Scratch<'a, R> {
         requires { RowThere R.layout row × (slot / 64 < R.layout.words) }
         ensures { result ≡ member (cell self.now (row_of R.layout row)) slot }
     {
-        bitset::contains(self.row(row), slot)
+        self.view().contains(row, slot)
     }
 
     // Puts the slot into a row.
@@ -179,10 +188,9 @@ impl<'a, R: Run> Scratch<'a, R> {
         requires { RowThere R.layout into × RowThere R.layout from × (row_of R.layout into ≡ row_of R.layout from → ⊥) }
         ensures { self.new ≡ store_cell self.old (row_of R.layout into) (cell self.old (row_of R.layout from)) }
     {
-        self.words.copy_within(
-            layout::row_words(self.terms, from),
-            layout::row_words(self.terms, into).start,
-        );
+        let d = layout::row_words(self.terms, into);
+        let k = layout::row_words(self.terms, from);
+        bitset::copy_within(self.words, d.start, k.start, self.terms.layout.words);
     }
 
     // A row takes in what is in another.
@@ -213,15 +221,16 @@ impl<'a, R: Run> Scratch<'a, R> {
     }
 
     // A row becomes a block's set.
-    pub fn take_set(&mut self, row: SlotRow, t: &Sets<'_, R>, set: BlockSet)
+    pub fn take_set(&mut self, row: SlotRow, t: &SetsView<'_, R>, set: BlockSet)
         requires { RowThere R.layout row × SetThere R.layout set }
         ensures { self.new ≡ store_cell self.old (row_of R.layout row) (cell t.now (set_of set)) }
     {
-        self.words[layout::row_words(self.terms, row)].copy_from_slice(t.row(set));
+        let into = &mut self.words[layout::row_words(self.terms, row)];
+        bitset::copy(into, t.row(set));
     }
 
     // A row keeps what is also in a block's set.
-    pub fn meet_set(&mut self, row: SlotRow, t: &Sets<'_, R>, set: BlockSet)
+    pub fn meet_set(&mut self, row: SlotRow, t: &SetsView<'_, R>, set: BlockSet)
         requires { RowThere R.layout row × SetThere R.layout set }
         ensures { self.new ≡ store_cell self.old (row_of R.layout row) (meet (cell self.old (row_of R.layout row)) (cell t.now (set_of set))) }
     {
@@ -232,7 +241,7 @@ impl<'a, R: Run> Scratch<'a, R> {
     }
 
     // A row takes in what is in a block's set.
-    pub fn join_set(&mut self, row: SlotRow, t: &Sets<'_, R>, set: BlockSet)
+    pub fn join_set(&mut self, row: SlotRow, t: &SetsView<'_, R>, set: BlockSet)
         requires { RowThere R.layout row × SetThere R.layout set }
         ensures { self.new ≡ store_cell self.old (row_of R.layout row) (join (cell self.old (row_of R.layout row)) (cell t.now (set_of set))) }
     {

@@ -12,7 +12,7 @@ ghost use Rattle.sizes.specs.Sizes.{sets_words};
 
 use crate::layout;
 use crate::names::{BlockSet, SlotRow};
-use crate::scratch::Scratch;
+use crate::views::{ScratchView, SetsView};
 use run::Run;
 use run::terms::SetsTerms;
 use sizes::Layout;
@@ -58,6 +58,13 @@ impl<'a, R: Run> Sets<'a, R> {
         words
     }
 
+    // Its cells by a shared borrow.
+    pub fn view(&self) -> SetsView<'_, R>
+        ensures { result ≡ self.now }
+    {
+        SetsView::new(self.words, self.terms)
+    }
+
     // The layout of its cells: each is as wide as it says.
     pub fn layout(&self) -> Layout
         ensures is { result ≡ R.layout }
@@ -65,8 +72,7 @@ impl<'a, R: Run> Sets<'a, R> {
         ensures whole { SetsWhole R.layout self.now }
         ensures words { InWords self.now }
     {
-        layout::fit(self.words);
-        self.terms.layout
+        self.view().layout()
     }
 
     // A block's set.
@@ -75,7 +81,7 @@ impl<'a, R: Run> Sets<'a, R> {
         ensures is { result.now ≡ cell self.now (set_of set) }
         ensures long { length result.now ≡ R.layout.words }
     {
-        &self.words[layout::set_words(self.terms, set)]
+        self.view().row(set)
     }
 
     // Each word of it becomes v.
@@ -87,28 +93,29 @@ impl<'a, R: Run> Sets<'a, R> {
     }
 
     // It becomes a row of scratch.
-    pub fn store(&mut self, set: BlockSet, s: &Scratch<'_, R>, row: SlotRow)
+    pub fn store(&mut self, set: BlockSet, s: &ScratchView<'_, R>, row: SlotRow)
         requires { SetThere R.layout set × RowThere R.layout row }
         ensures { self.new ≡ store_cell self.old (set_of set) (cell s.now (row_of R.layout row)) }
     {
-        self.words[layout::set_words(self.terms, set)].copy_from_slice(s.row(row));
+        let into = &mut self.words[layout::set_words(self.terms, set)];
+        bitset::copy(into, s.row(row));
     }
 
     // Whether it and a row of scratch hold the same words.
-    pub fn same(&self, set: BlockSet, s: &Scratch<'_, R>, row: SlotRow) -> bool
+    pub fn same(&self, set: BlockSet, s: &ScratchView<'_, R>, row: SlotRow) -> bool
         requires { SetThere R.layout set × RowThere R.layout row }
         ensures { result ≡ same (cell self.now (set_of set)) (cell s.now (row_of R.layout row)) }
     {
-        bitset::same(self.row(set), s.row(row))
+        self.view().same(set, s, row)
     }
 
     // The entry of the k-th await becomes its instruction and a row of scratch.
-    pub fn put_await(&mut self, k: usize, instruction: u64, s: &Scratch<'_, R>, row: SlotRow)
+    pub fn put_await(&mut self, k: usize, instruction: u64, s: &ScratchView<'_, R>, row: SlotRow)
         requires { (k < R.layout.awaits) × RowThere R.layout row }
         ensures { self.new ≡ store_cell self.old (await_entry R.layout.blocks k) (instruction ∷ cell s.now (row_of R.layout row)) }
     {
         let entry = &mut self.words[layout::entry_words(self.terms, k)];
         entry[0] = instruction;
-        entry[1..].copy_from_slice(s.row(row));
+        bitset::copy(&mut entry[1..], s.row(row));
     }
 }

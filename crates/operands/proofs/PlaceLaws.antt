@@ -7,7 +7,7 @@ use native.Mathlib.Omega.{arith}
 use lib.Dec.{eqb}
 use lib.ListN.{length, get_or, drop, length-append}
 use borrow.Author.Tests.{ne_eqb}
-use Rattle.std.specs.Prelude.{Some, None, MatchOption}
+use Rattle.std.specs.Prelude.{Option, Some, None, MatchOption, is_some}
 use Rattle.operands.specs.Choice.{pick}
 use Rattle.operands.specs.Places.{Place, one, optional, rest, absent, present, gathered}
 use Rattle.operands.specs.Patterns.{role_at, single_of, fixed_at}
@@ -132,6 +132,17 @@ pub singles_take : (a b k : ℕ) (v : List ℕ) (j x : ℕ) → j < 4 → Some x
 singles_take a b k v j x h e =
     singles-step a b k v j h
     ∙ ap (λ (l : List ℕ). l ++ singles_from a b k v (j + 1)) (some_alone _ x (single-few a b (role_at k j) (get_or v j absent)) e)
+
+-- how many are left then
+pub singles_one-more : (a b k : ℕ) (v : List ℕ) (j : ℕ) (o : Option ℕ) → j < 4 → o ≡ nth (single_values a b (role_at k j) (get_or v j absent)) 0
+    → is_some o ≡ true → length (singles_from a b k v j) ≡ suc (length (singles_from a b k v (j + 1)))
+singles_one-more a b k v j (Some x) h e s = ap length (singles_take a b k v j x h e)
+singles_one-more a b k v j None h e s = cc
+
+pub singles_no-more : (a b k : ℕ) (v : List ℕ) (j : ℕ) (o : Option ℕ) → j < 4 → o ≡ nth (single_values a b (role_at k j) (get_or v j absent)) 0
+    → is_some o ≡ false → length (singles_from a b k v j) ≡ length (singles_from a b k v (j + 1))
+singles_no-more a b k v j (Some x) h e s = cc
+singles_no-more a b k v j None h e s = ap length (singles_skip a b k v j h e)
 
 -- no single operand stands after the single fields
 late-places : (a b k j n : ℕ) → single_of a ≡ 1 → single_of b ≡ 1 → 1 ≤ k → k ≤ 41 → fixed_at k ≤ j → (0 < n → j + n ≤ 4) → places_from a b k j n ≡ []

@@ -85,20 +85,34 @@ impl<'a> Singles<'a> {
         bytes::number(self.fields[j])
     }
 
-    // How many are left.
-    #[tactic(auto, using(crate::proofs::PlaceLaws::singles_few))]
+    // How many are left. Not by `count`, which walks by `next`: with a fixed end the loop is unrolled, and only fields of role `maybe` are read.
     pub(crate) fn len(self) -> usize
         ensures length { result ≡ length (singles_left self.entry) }
         ensures few { result ≤ 4 }
     {
-        self.count()
+        let mut len = 0;
+        for j in self.next..4 {
+            if self.at(j).is_some() {
+                len += 1;
+            }
+        }
+        len
     }
 
-    // The k-th that is left.
-    pub(crate) fn get(mut self, k: usize) -> Option<u32>
+    // The k-th that is left. Not by `nth`, as `len` is not by `count`.
+    pub(crate) fn get(self, k: usize) -> Option<u32>
         ensures { result ≡ nth (singles_left self.entry) k }
     {
-        self.nth(k)
+        let mut before = k;
+        for j in self.next..4 {
+            if let Some(value) = self.at(j) {
+                if before == 0 {
+                    return Some(value);
+                }
+                before -= 1;
+            }
+        }
+        None
     }
 
     // The value of a field that may be absent.

@@ -16,6 +16,10 @@ const NOTHING: u64 = u64::MAX;
 fn parse(kind: u64, body: &[u8]) -> Option<Instruction<'_>>
     ensures { Parses kind body.now result }
 {
+    // Tested here, so that both conversions come to this one comparison.
+    if kind < 1 || 41 < kind {
+        return None;
+    }
     let kind = Kind::try_from(u16::try_from(kind).ok()?).ok()?;
     let (fields, left) = body.as_chunks::<4>();
     if !left.is_empty() {

@@ -1,5 +1,5 @@
 -- Laws of repeats: from the front of a list, and from a set of those seen before. Assumes nothing.
-use mathlib.Core.Path.{◌≡◌, refl, ap, ap₂, ◌∙◌}
+use mathlib.Core.Path.{◌≡◌, refl, sym, ap, ap₂, ◌∙◌}
 use mathlib.Core.Bool.{Bool, true, false, ◌||◌}
 use mathlib.Core.List.{List, [], ◌∷◌, map}
 use Prim.Native.Nat.{ℕ, zero, suc, ◌+◌, ◌*◌, ◌-◌, ◌/◌, ◌≤◌, ◌<◌}
@@ -49,6 +49,14 @@ module _ (l : List (List ℕ)) (i : ℕ) where
   pub twice_end : length l ≤ i → any_twice (map number_in (drop i l)) ≡ false
   unfolding any_twice
   twice_end h = at_drop_all (λ xs. any_twice (map number_in xs)) l i h
+
+  -- and behind its first, by an answer to whether that is among the others
+  pub twice_step : (x : ℕ) (rest : List (List ℕ)) (t : Bool) → i < length l → x ≡ number_in (get_or l i []) → rest ≡ drop (i + 1) l
+      → t ≡ list_any (λ b. eqb x (number_in b)) rest → any_twice (map number_in (drop i l)) ≡ (t || any_twice (map number_in (drop (i + 1) l)))
+  twice_step x rest t h e r a =
+      twice_more h ∙ ap (λ (u : Bool). u || any_twice (map number_in (drop (i + 1) l)))
+      (ap (λ (y : ℕ). among y (map number_in (drop (i + 1) l))) (sym e) ∙ sym (among_any x (drop (i + 1) l))
+      ∙ ap (list_any (λ b. eqb x (number_in b))) (sym r) ∙ sym a)
 
   module _ (ws : List ℕ) where
     -- and a set of those seen before

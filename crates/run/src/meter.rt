@@ -8,7 +8,7 @@ use budget::{FlowBudget, Limits, OverFacts, OverWork};
 use std::marker::{Model, PhantomData};
 
 // A contract sees the budget: the limits are the run's.
-#[derive(Clone, Copy)]
+#[derive_where(Clone, Copy)]
 pub struct Meter<R: Run> {
     limits: Limits,
     budget: FlowBudget,

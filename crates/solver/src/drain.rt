@@ -54,10 +54,10 @@ fn settle<R: Run>(
 {
     let kept = compute::kept(d, block);
     let running = compute::running(d);
-    if t.same(kept, s, running) {
+    if t.same(kept, &s.view(), running) {
         return Ok((from, meter));
     }
-    t.store(kept, s, running);
+    t.store(kept, &s.view(), running);
     tell(s, from, d, block, meter)
 }
 
@@ -94,7 +94,7 @@ fn visit<R: Run>(
     let block = s.get(Cell::Ring, from.head) as usize;
     s.put(Cell::Queued, block, 0);
     let left = charge_visit(s, d, block, meter)?;
-    compute::compute(s, t, d, block);
+    compute::compute(s, &t.view(), d, block);
     settle(s, t, rest, d, block, left)
 }
 

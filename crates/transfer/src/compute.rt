@@ -13,7 +13,7 @@ use crate::direction::Direction;
 use memory::edges;
 use memory::names::{BlockSet, Cell, SlotRow};
 use memory::scratch::Scratch;
-use memory::sets::Sets;
+use memory::views::SetsView;
 use run::Run;
 
 // The running row.
@@ -47,7 +47,7 @@ fn load<R: Run>(s: &mut Scratch<'_, R>, row: SlotRow, words: &[u64])
         |into|
             requires { length into.old ≡ length words.now }
             ensures { into.new ≡ words.entry.now }
-        { into.copy_from_slice(words) },
+        { bitset::copy(into, words) },
     );
 }
 
@@ -65,7 +65,7 @@ fn begin_initialized<R: Run>(s: &mut Scratch<'_, R>, block: usize)
 
 // The running row keeps what is initialized at the exit of a predecessor that is reachable.
 #[tactic(auto, unfolding(crate::specs::Transfer::gather_one))]
-fn meet_one<R: Run>(s: &mut Scratch<'_, R>, t: &Sets<'_, R>, block: usize)
+fn meet_one<R: Run>(s: &mut Scratch<'_, R>, t: &SetsView<'_, R>, block: usize)
     requires { block < R.layout.blocks }
     ensures { s.new ≡ store_cell s.old (running_row Initialization R.layout) (gather_one Initialization s.old t.now block (cell s.old (running_row Initialization R.layout))) }
 {
@@ -76,7 +76,7 @@ fn meet_one<R: Run>(s: &mut Scratch<'_, R>, t: &Sets<'_, R>, block: usize)
 
 // What a predecessor keeps is met with the parameters at block 0, with all slots at another.
 #[tactic(auto, unfolding(crate::specs::Transfer::entry_of))]
-fn begin_met<R: Run>(s: &mut Scratch<'_, R>, t: &Sets<'_, R>, block: usize, from: usize)
+fn begin_met<R: Run>(s: &mut Scratch<'_, R>, t: &SetsView<'_, R>, block: usize, from: usize)
     requires { from < R.layout.blocks }
     ensures { s.new ≡ store_cell s.old (running_row Initialization R.layout) (gather_one Initialization s.old t.now from (entry_of Initialization R.layout s.old block)) }
 {
@@ -90,7 +90,7 @@ fn begin_met<R: Run>(s: &mut Scratch<'_, R>, t: &Sets<'_, R>, block: usize, from
 
 // All slots, met with what is initialized at the exit of a predecessor that is reachable.
 #[tactic(auto, using(crate::proofs::TransferLaws::gather_unreachable, crate::proofs::TransferLaws::met_all))]
-fn begin_all<R: Run>(s: &mut Scratch<'_, R>, t: &Sets<'_, R>, block: usize)
+fn begin_all<R: Run>(s: &mut Scratch<'_, R>, t: &SetsView<'_, R>, block: usize)
     requires { block < R.layout.blocks }
     ensures { s.new ≡ store_cell s.old (running_row Initialization R.layout) (gather_one Initialization s.old t.now block (replicate R.layout.words ones)) }
 {
@@ -103,7 +103,7 @@ fn begin_all<R: Run>(s: &mut Scratch<'_, R>, t: &Sets<'_, R>, block: usize)
 
 // The running row is met with what the predecessors at the n edges behind an edge keep.
 #[tactic(auto, using(crate::proofs::TransferLaws::meeting_none, crate::proofs::TransferLaws::meeting_from))]
-fn meet_rest<R: Run>(s: &mut Scratch<'_, R>, t: &Sets<'_, R>, first: usize, n: usize)
+fn meet_rest<R: Run>(s: &mut Scratch<'_, R>, t: &SetsView<'_, R>, first: usize, n: usize)
     requires { Chain R.layout s.old (n + 1) 0 first }
     ensures { s.new ≡ store_cell s.old (running_row Initialization R.layout) (gather_all Initialization s.old t.now (map source_of (chain_from s.old n (next_edge s.old first))) (cell s.old (running_row Initialization R.layout))) }
 {
@@ -116,7 +116,7 @@ fn meet_rest<R: Run>(s: &mut Scratch<'_, R>, t: &Sets<'_, R>, first: usize, n: u
 
 // The running row becomes `incoming` of a block.
 #[tactic(auto, using(crate::proofs::TransferLaws::first_source, crate::proofs::TransferLaws::meets))]
-fn incoming<R: Run>(s: &mut Scratch<'_, R>, t: &Sets<'_, R>, block: usize)
+fn incoming<R: Run>(s: &mut Scratch<'_, R>, t: &SetsView<'_, R>, block: usize)
     requires { (block < R.layout.blocks) × Connected R.layout s.old }
     ensures { s.new ≡ store_cell s.old (running_row Initialization R.layout) (gathered Initialization R.layout s.old t.now block) }
 {
@@ -131,7 +131,7 @@ fn incoming<R: Run>(s: &mut Scratch<'_, R>, t: &Sets<'_, R>, block: usize)
 }
 
 // The running row is joined with what the successors of a block keep, of which it has n, from the second on.
-fn join_rest<R: Run>(s: &mut Scratch<'_, R>, t: &Sets<'_, R>, block: usize, n: usize)
+fn join_rest<R: Run>(s: &mut Scratch<'_, R>, t: &SetsView<'_, R>, block: usize, n: usize)
     requires { (block < R.layout.blocks) × (n ≡ word s.old successor_count_cell block) × Connected R.layout s.old }
     ensures { s.new ≡ store_cell s.old (running_row Liveness R.layout) (gather_all Liveness s.old t.now (tabulate 1 (n - 1) (successor_at s.old block)) (cell s.old (running_row Liveness R.layout))) }
 {
@@ -143,7 +143,7 @@ fn join_rest<R: Run>(s: &mut Scratch<'_, R>, t: &Sets<'_, R>, block: usize, n: u
 
 // The running row becomes `live_out` of a block.
 #[tactic(auto, using(crate::proofs::TransferLaws::first_to, crate::proofs::TransferLaws::first_counted, crate::proofs::TransferLaws::first_connected))]
-fn live_out<R: Run>(s: &mut Scratch<'_, R>, t: &Sets<'_, R>, block: usize)
+fn live_out<R: Run>(s: &mut Scratch<'_, R>, t: &SetsView<'_, R>, block: usize)
     requires { (block < R.layout.blocks) × Connected R.layout s.old }
     ensures { s.new ≡ store_cell s.old (running_row Liveness R.layout) (gathered Liveness R.layout s.old t.now block) }
 {
@@ -158,7 +158,7 @@ fn live_out<R: Run>(s: &mut Scratch<'_, R>, t: &Sets<'_, R>, block: usize)
 }
 
 // The running row becomes what a block gathers from its neighbors.
-pub fn gather<R: Run>(s: &mut Scratch<'_, R>, t: &Sets<'_, R>, d: Direction, block: usize)
+pub fn gather<R: Run>(s: &mut Scratch<'_, R>, t: &SetsView<'_, R>, d: Direction, block: usize)
     requires { (block < R.layout.blocks) × Connected R.layout s.old }
     ensures { s.new ≡ store_cell s.old (running_row d R.layout) (gathered d R.layout s.old t.now block) }
 {
@@ -193,7 +193,7 @@ fn transfer_live<R: Run>(s: &mut Scratch<'_, R>, block: usize)
 
 // The running row becomes the new set of a block.
 #[tactic(auto, using(crate::proofs::TransferLaws::computes))]
-pub fn compute<R: Run>(s: &mut Scratch<'_, R>, t: &Sets<'_, R>, d: Direction, block: usize)
+pub fn compute<R: Run>(s: &mut Scratch<'_, R>, t: &SetsView<'_, R>, d: Direction, block: usize)
     requires { (block < R.layout.blocks) × Connected R.layout s.old }
     ensures { s.new ≡ store_cell s.old (running_row d R.layout) (computed d R.layout s.old t.now block) }
 {

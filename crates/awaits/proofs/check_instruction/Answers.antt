@@ -50,4 +50,4 @@ returns g c =
     instruction_met a.sheet.now.bytes.now a.sheet.now.script g.R.Run.layout g.R.Run.limits a.meter a.pc a.place a.s.now a.t.now pre.0 _ paid
     c.in_ok-left.ensures c.get-cost.ensures.whole _ _ r.outputs_are (r.inputs_are ∙ sym c.inputs.ensures) r.output_below
     (subst (AllBelow (64 * g.R.Run.layout.words)) (sym c.inputs.ensures) r.inputs_below) _ _ c.remove_output.ensures c.insert_inputs.ensures
-    _ r.await_is (λ q. omega (arith, pre.2 (r.await_is ∙ q), pre.3)) _ _ (rw c.number.ensures at c.check_point.ensures)
+    _ r.await_is (λ q. omega (arith, pre.2 (r.await_is ∙ q), pre.3)) _ _ (rw (c.number.ensures, c.view.ensures) at c.check_point.ensures)

@@ -6,4 +6,4 @@ pub charge_back-requires : goal.charge_back-requires
 charge_back-requires g c = let span = counted_span c.requires in (span.ordered, span.inside)
 
 pub returns-then-found-eq0 : goal.returns-then-found-eq0
-returns-then-found-eq0 g c = none_charged c.requires c.if-found-eq0.true c.charge_back.ensures
+returns-then-found-eq0 g c = none_charged c.requires c.if-found-eq0.true (rw c.view.ensures at c.charge_back.ensures)

@@ -17,7 +17,7 @@ overflow_add-next g c =
 pub check_awaits-requires : goal.check_awaits-requires
 check_awaits-requires g c =
     let span = counted_span c.requires in
-    let lv = leaving c.layout.ensures.whole c.layout.ensures.words c.layout-2.ensures.whole c.layout-2.ensures.words c.requires c.gather.ensures in (
+    let lv = leaving c.layout.ensures.whole c.layout.ensures.words c.layout-2.ensures.whole c.layout-2.ensures.words c.requires (rw c.view.ensures at c.gather.ensures) in (
       lv.coded,
       span.ordered,
       span.inside,
@@ -27,11 +27,11 @@ check_awaits-requires g c =
 
 pub returns-in_err-left : goal.returns-in_err-left
 returns-in_err-left g c =
-    let lv = leaving c.layout.ensures.whole c.layout.ensures.words c.layout-2.ensures.whole c.layout-2.ensures.words c.requires c.gather.ensures in
+    let lv = leaving c.layout.ensures.whole c.layout.ensures.words c.layout-2.ensures.whole c.layout-2.ensures.words c.requires (rw c.view.ensures at c.gather.ensures) in
     let p = err_from_is_err_and c.from_residual.result c.from_residual.ensures.1 in
     rw (p.1, p.2) (awaits_refused lv c.in_err-left.ensures refl)
 
 pub returns : goal.returns
 returns g c =
-    let lv = leaving c.layout.ensures.whole c.layout.ensures.words c.layout-2.ensures.whole c.layout-2.ensures.words c.requires c.gather.ensures in
+    let lv = leaving c.layout.ensures.whole c.layout.ensures.words c.layout-2.ensures.whole c.layout-2.ensures.words c.requires (rw c.view.ensures at c.gather.ensures) in
     awaits_reached lv c.in_ok-left.ensures refl

@@ -12,5 +12,5 @@ invariant_of-list g c = record {
 pub returns-clause-called : goal.returns-clause-called
 returns-clause-called g c =
     rw (← c.PER_RECORD.ensures)
-    (calls g.T.Listed.listed _ _ _ _ _ _ _ _ _ _ _ c.args.added _ _ _ _ c.examine-examined.ensures c.layout_of-layout.ensures c.list.ensures.listed
+    (calls g.T.Listed.listed _ _ _ _ _ _ _ _ _ _ _ c.args.added _ _ _ _ c.examine-examined.ensures c.layout_of-layout.ensures c.list.ensures
     c.answer_of-answer.ensures (c.fill.ensures.after (search rules)) (omega arith) (omega (arith, c.examine-examined.auto.s)))

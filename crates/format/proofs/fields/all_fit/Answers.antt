@@ -26,4 +26,4 @@ returns-then-single_fit c =
     c.all-single_fit.ensures.ran (YieldsList-from_enumerate (YieldsList-from_slice s cc) c.enumerate.ensures.count) (λ x q h. search rules) (λ x q h. tt) in
     let w = MatchBool-at_true _ _ c.if-single_fit.true m in
     λ e. all-fit a.i.fields.now k a.counts.slots a.counts.instructions c.of-pattern.result.single a.i.fitting c.of-pattern.ensures.single
-    (rw c.split_at.ensures.front at w) (kind_low a.i.kind) (kind_high a.i.kind) (rw c.split_at.ensures.back at (sym c.any_above.ensures ∙ not-true _ e))
+    (rw c.split_at.ensures.front at w) (kind_low a.i.kind) (kind_high a.i.kind) (rw c.split_at.ensures.back at (sym c.rest_above.ensures ∙ not-true _ e))

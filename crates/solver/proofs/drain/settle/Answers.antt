@@ -8,7 +8,7 @@ returns-then-same g c =
     let a = c.args in
     let p = c.requires in (
       settled_same a.d g.R.Run.layout g.R.Run.limits a.block a.s.now a.t.now a.from a.meter c.kept-kept.ensures c.running-running.ensures
-          c.same.ensures c.if-same.true,
+          (rw c.view.ensures at c.same.ensures) c.if-same.true,
       (p.1, omega arith, p.2),
     )
 
@@ -17,6 +17,6 @@ returns g c =
     let a = c.args in
     let told = c.tell.ensures c.store.new.self in (
       settled_new a.d g.R.Run.layout g.R.Run.limits a.block a.s.now a.t.now a.from a.meter c.kept-kept.ensures c.running-running.ensures
-          c.same.ensures c.if-same.false c.store.ensures told.0,
+          (rw c.view.ensures at c.same.ensures) c.if-same.false (rw c.view-2.ensures at c.store.ensures) told.0,
       told.1,
     )

@@ -19,7 +19,7 @@ settle-requires g c =
     let p = c.requires in
     let met = charge_met g.R.Run.limits a.meter _ p.3 c.in_ok-left.ensures in (
       first_block p.1 c.get-block.ensures.is,
-      visit_good p.1 c.get-block.ensures.is c.get-block.ensures.whole c.put.ensures.stored a.d _ c.compute.ensures (rw c.layout.ensures.is at c.wrapped.ensures),
+      visit_good p.1 c.get-block.ensures.is c.get-block.ensures.whole c.put.ensures.stored a.d _ (rw c.view.ensures at c.compute.ensures) (rw c.layout.ensures.is at c.wrapped.ensures),
       met.1,
       p.3,
     )
@@ -30,6 +30,6 @@ returns g c =
     let met = charge_met g.R.Run.limits a.meter _ c.requires.3 c.in_ok-left.ensures in
     let o = out_of c.settle.new.s c.settle.new.t c.settle.result in (
       visited_on a.d g.R.Run.layout g.R.Run.limits a.s.now a.t.now a.from a.meter c.get-block.ensures.is c.put.ensures.stored
-          c.in_ok-left.ensures c.compute.ensures (rw c.layout.ensures.is at c.wrapped.ensures) c.settle.ensures.0,
+          c.in_ok-left.ensures (rw c.view.ensures at c.compute.ensures) (rw c.layout.ensures.is at c.wrapped.ensures) c.settle.ensures.0,
       went-less g.R.Run.layout g.R.Run.limits c.in_ok-left.left.work (a.meter.work + 1) o (omega (arith, met.0)) c.settle.ensures.1,
     )

@@ -4,6 +4,6 @@ use Rattle.memory.proofs.sets.Sets.fill.Goals as goal
 
 pub returns : goal.returns
 returns g c =
-    let e = sets_backed_long _ c.self.invariant c.self.view_is c.args.set c.requires c.set_words.ensures in
+    let e = sets_backed_long _ c.self.invariant.holds c.self.view_is c.args.set c.requires c.set_words.ensures in
     rw (c.fill.ensures.after (λ y q. q) ∙ ap (λ (n : ℕ). replicate n c.args.v) e)
-    (sets_backed_put _ c.self.invariant c.self.view_is c.args.set c.requires c.set_words.ensures _ (search (rules, e)))
+    (sets_backed_put _ c.self.invariant.holds c.self.view_is c.args.set c.requires c.set_words.ensures _ (search (rules, e)))

@@ -1,5 +1,5 @@
 use Rattle.memory.proofs.BackedLaws.{backed_whole, backed_in_words}
-use Rattle.memory.proofs.scratch.Scratch.layout.Goals as goal
+use Rattle.memory.proofs.views.ScratchView.layout.Goals as goal
 
 pub returns-clause-whole : goal.returns-clause-whole
 returns-clause-whole g c = backed_whole _ c.self.invariant c.self.view_is

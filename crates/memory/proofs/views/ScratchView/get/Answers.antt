@@ -1,6 +1,6 @@
 use Rattle.std.proofs.Common.{arith}
 use Rattle.memory.proofs.BackedLaws.{backed_whole, backed_inside, backed_small, backed_word}
-use Rattle.memory.proofs.scratch.Scratch.get.Goals as goal
+use Rattle.memory.proofs.views.ScratchView.get.Goals as goal
 
 pub overflow_add-result : goal.overflow_add-result
 overflow_add-result g c = omega (arith, backed_small _ c.self.invariant c.self.view_is c.args.cell c.requires c.cell_start.ensures)
