@@ -8,12 +8,13 @@ ghost use Rattle.sheet.specs.Scripts.{checked_of};
 ghost use Rattle.script.specs.Script.{parameter_in};
 ghost use Rattle.examine.specs.Examine.{Examines};
 ghost use Rattle.added.specs.Added.{width_of, strays};
+ghost use Rattle.instructions.specs.Sheets.{sheet_in};
 ghost use Rattle.added.specs.Examine.{tested_of, tested_sheet, Tests, ExaminesWith};
 
 use budget::{FlowBudget, Limits};
 use examine::Examined;
 use format::refusal::Refusal;
-use instructions::checked::Sheet;
+use instructions::checked::CheckedSheet;
 use sheet::script::{Refused, Script};
 
 // The checks; then the judging, with the slots of `added`, if there is such a set, as parameters beside the sheet's own. `added` is only read, and words
@@ -32,20 +33,32 @@ pub fn examine(
 {
     match check(sheet, added, s.len()) {
         Err(e) => Err(examine::refuse(t, e.why, e.id, budget)),
-        Ok(sheet) => examine::passed(&sheet, added.unwrap_or(&[]), limits, budget, s, t, records),
+        Ok(checked) => examine::passed(
+            &checked.sheet,
+            added.unwrap_or(&[]),
+            limits,
+            budget,
+            s,
+            t,
+            records,
+        ),
     }
 }
 
 // The sheet checks; then the test of an added set.
-fn check<'a>(sheet: &'a [u8], added: Option<&[u64]>, scratch: usize) -> Result<Sheet<'a>, Refused>
-    ensures { MatchOption added.entry (Tests sheet.now (checked_of sheet.now) result)
-        (λ set. Tests sheet.now (tested_sheet set.now scratch (checked_of sheet.now)) result) }
+fn check<'a>(
+    sheet: &'a [u8],
+    added: Option<&[u64]>,
+    scratch: usize,
+) -> Result<CheckedSheet<'a>, Refused>
+    ensures { MatchOption added.entry (Tests sheet.now (checked_of sheet.now) (sheet_in result))
+        (λ set. Tests sheet.now (tested_sheet set.now scratch (checked_of sheet.now)) (sheet_in result)) }
 {
-    let sheet = Sheet::check(sheet)?;
+    let checked = CheckedSheet::check(sheet)?;
     if let Some(set) = added {
-        test(set, sheet.script, scratch)?;
+        test(set, checked.sheet.script, scratch)?;
     }
-    Ok(sheet)
+    Ok(checked)
 }
 
 // Whether an added set is taken, or why it is not: 10 if it or scratch is too short; then 7 if a bit of the words that the slots take is no slot.

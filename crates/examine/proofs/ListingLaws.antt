@@ -41,6 +41,7 @@ listing s parameter x lent w v y a = record {
     instructions = a.room.instructions;
     blocks = a.room.blocks;
     words = a.room.words;
+    awaits = omega (arith, a.sets_room.awaits);
     extra = a.room.extra;
   };
   fits = a.room.fits;

@@ -12,7 +12,7 @@ ghost use Rattle.examine.specs.Stages.{zeros, cut_at, turned_away, taken_as, Acc
 
 use budget::{FlowBudget, Limits};
 use format::refusal::Refusal;
-use instructions::checked::Sheet;
+use instructions::checked::{CheckedSheet, Sheet};
 use judge::Judged;
 use sizes::Layout;
 
@@ -47,9 +47,9 @@ pub fn examine(
 ) -> Result<Examined, Refused>
     ensures { Examines sheet.now (parameter_with (parts_of sheet.now) added.now) (counted limits) records budget s.old s.new t.old t.new result }
 {
-    match Sheet::check(sheet) {
+    match CheckedSheet::check(sheet) {
         Err(e) => Err(refuse(t, e.why, e.id, budget)),
-        Ok(sheet) => passed(&sheet, added, limits, budget, s, t, records),
+        Ok(checked) => passed(&checked.sheet, added, limits, budget, s, t, records),
     }
 }
 

@@ -157,6 +157,7 @@ module _ {s : List ℕ} {x : Script} {l : Limits} {records n : ℕ} {b : FlowBud
       instructions = indexes.room.instructions;
       blocks = indexes.room.blocks;
       words = indexes.room.words;
+      awaits = indexes.sets_room.awaits;
       extra = indexes.room.extra;
     }
 

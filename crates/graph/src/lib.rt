@@ -21,7 +21,7 @@ use memory::scratch::Scratch;
 use memory::sets::Sets;
 use run::Run;
 use run::meter::Meter;
-use run::terms::{SetsTerms, Terms};
+use run::terms::{ScratchTerms, SetsTerms, Terms};
 use sizes::{Layout, Lent, Stopped};
 use std::marker::Brand;
 use std::mem;
@@ -69,17 +69,15 @@ fn build<R: Run>(
     budget: FlowBudget,
 ) -> Result<(Layout, FlowBudget), Stopped>
     requires { (terms.layout ≡ R.layout) × (limits ≡ R.limits) × Lends R.scratch s.old.words × Lends R.sets t.old.words
-        × (scratch_words terms.layout ≤ length s.old.words.now) × (sets_words terms.layout ≤ length t.old.words.now) × (terms.layout.awaits ≤ 65536)
+        × (scratch_words terms.layout ≤ length s.old.words.now) × (sets_words terms.layout ≤ length t.old.words.now)
         × Ready sheet.now.bytes.now sheet.now.script terms.layout (scratch terms.layout s.old.words.now) }
     ensures lent { Lends R.scratch s.new.words × Lends R.sets t.new.words }
     ensures built { Built sheet.now.bytes.now (parameter_with (parts_of sheet.now.bytes.now) added.now) sheet.now.script terms.layout limits budget
         (scratch terms.layout s.old.words.now) (scratch terms.layout s.new.words.now) (sets terms.layout t.new.words.now) result }
 {
-    let mut cells = Scratch::<R>::new(mem::take(&mut s.words), terms);
-    let kept_terms = SetsTerms {
-        layout: terms.layout,
-    };
-    let mut kept = Sets::<R>::new(mem::take(&mut t.words), kept_terms);
+    let layout = terms.layout;
+    let mut cells = Scratch::<R>::new(mem::take(&mut s.words), ScratchTerms { layout });
+    let mut kept = Sets::<R>::new(mem::take(&mut t.words), SetsTerms { layout });
     let built = build_cells(
         sheet,
         added,
@@ -89,7 +87,7 @@ fn build<R: Run>(
     );
     s.words = cells.into_words();
     t.words = kept.into_words();
-    Ok((terms.layout, built?.budget()))
+    Ok((layout, built?.budget()))
 }
 
 // The blocks, then the edges between them, and which blocks a path from block 0 reaches.

@@ -110,6 +110,7 @@ module _ (s : List ℕ) (parameter : ℕ → Bool) (x : Script) (l : Limits) (re
         instructions = indexes.room.instructions;
         blocks = indexes.room.blocks;
         words = indexes.room.words;
+        awaits = indexes.sets_room.awaits;
         extra = indexes.room.extra;
       }
 
@@ -118,7 +119,7 @@ module _ (s : List ℕ) (parameter : ℕ → Bool) (x : Script) (l : Limits) (re
       scratch_enough = indexes.room.fits
 
       pub awaits_few : y.awaits ≤ 65536
-      awaits_few = indexes.sets_room.awaits
+      awaits_few = layout_bounded.awaits
 
       pub sets_enough : length v₁ ≡ length v → sets_words y ≤ length v₁
       sets_enough long = omega (arith, long, indexes.sets_room.fits)

@@ -25,7 +25,7 @@ use memory::scratch::Scratch;
 use memory::sets::Sets;
 use run::Run;
 use run::meter::Meter;
-use run::terms::{SetsTerms, Terms};
+use run::terms::{ScratchTerms, SetsTerms, Terms};
 use sizes::{Layout, Stopped};
 use std::marker::Brand;
 use std::mem;
@@ -81,18 +81,16 @@ fn solve<R: Run>(
     budget: FlowBudget,
 ) -> Result<Judged, Stopped>
     requires { (terms.layout ≡ R.layout) × (limits ≡ R.limits) × Lends R.scratch s.old.words × Lends R.sets t.old.words
-        × (scratch_words terms.layout ≤ length s.old.words.now) × (sets_words terms.layout ≤ length t.old.words.now) × (terms.layout.awaits ≤ 65536)
-        × (limits.work < 2 ^ 64 - 1) × Begun sheet.now.bytes.now (held_set terms.layout (scratch terms.layout s.old.words.now)) sheet.now.script terms.layout
+        × (scratch_words terms.layout ≤ length s.old.words.now) × (sets_words terms.layout ≤ length t.old.words.now) × (limits.work < 2 ^ 64 - 1)
+        × Begun sheet.now.bytes.now (held_set terms.layout (scratch terms.layout s.old.words.now)) sheet.now.script terms.layout
         (scratch terms.layout s.old.words.now) (sets terms.layout t.old.words.now) }
     ensures lent { Lends R.scratch s.new.words × Lends R.sets t.new.words }
     ensures solved { Solves sheet.now.bytes.now (held_set terms.layout (scratch terms.layout s.old.words.now)) sheet.now.script terms.layout limits budget
         (scratch terms.layout s.new.words.now) (sets terms.layout t.new.words.now) result }
 {
-    let mut cells = Scratch::<R>::new(mem::take(&mut s.words), terms);
-    let kept_terms = SetsTerms {
-        layout: terms.layout,
-    };
-    let mut kept = Sets::<R>::new(mem::take(&mut t.words), kept_terms);
+    let layout = terms.layout;
+    let mut cells = Scratch::<R>::new(mem::take(&mut s.words), ScratchTerms { layout });
+    let mut kept = Sets::<R>::new(mem::take(&mut t.words), SetsTerms { layout });
     let judged = solve_cells(sheet, &mut cells, &mut kept, Meter::new(limits, budget));
     s.words = cells.into_words();
     t.words = kept.into_words();

@@ -2,7 +2,7 @@
 use mathlib.Core.Path.{◌≡◌, refl}
 use Prim.Native.Nat.{ℕ, ◌+◌, ◌^◌, ◌<◌}
 use Rattle.std.proofs.Common.{arith}
-use Rattle.run.specs.Terms.{Bounded}
+use Rattle.run.specs.Terms.{ScratchBounded}
 use Rattle.sizes.specs.Sizes.{scratch_words}
 use Rattle.sizes.specs.declared.Layout.{Layout}
 use Rattle.memory.specs.declared.names.Cell.{Cell}
@@ -70,7 +70,7 @@ module _ (y : Layout) (c : Cell) {start w : ℕ} (e : start ≡ total (take (cel
   pub cell_covers : Covers (scratch_widths y) (cell_of c) (width_of y c) (scratch_words y) start (start + w)
   cell_covers = record { starts = e; ends = omega (arith, f); fits = omega (arith, e, f, cell_width y c, scratch_fits y (cell_of c)) }
 
-  pub cell_small : Bounded y → start + w < 2 ^ 40
+  pub cell_small : ScratchBounded y → start + w < 2 ^ 40
   cell_small b = omega (arith, e, f, cell_width y c, scratch_fits y (cell_of c), words_below y b.instructions b.blocks b.words b.extra)
 
 pub row_there : {y : Layout} (r : SlotRow) → RowThere y r → Row y (row_of y r)

@@ -8,7 +8,7 @@ ghost use Rattle.memory.specs.Sets.{sets_widths, AwaitEntry};
 ghost use Rattle.sizes.specs.Sizes.{scratch_words, sets_words};
 
 use crate::names::{BlockSet, Cell, SlotRow};
-use run::terms::{SetsTerms, Terms};
+use run::terms::{ScratchTerms, SetsTerms};
 use sizes::Layout;
 use std::ops::Range;
 
@@ -46,7 +46,7 @@ pub fn cell_width(y: Layout, cell: Cell) -> usize
 
 // Where it begins.
 #[tactic(auto, using(crate::proofs::ScratchLaws::starts))]
-pub fn cell_start(terms: Terms, cell: Cell) -> usize
+pub fn cell_start(terms: ScratchTerms, cell: Cell) -> usize
     ensures { result ≡ total (take (cell_of cell) (scratch_widths terms.layout)) }
 {
     let y = terms.layout;
@@ -59,7 +59,7 @@ pub fn cell_start(terms: Terms, cell: Cell) -> usize
 
 // Its words.
 #[tactic(auto, using(crate::proofs::NamedLaws::cell_covers, crate::proofs::NamedLaws::cell_small))]
-pub fn cell_words(terms: Terms, cell: Cell) -> Range<usize>
+pub fn cell_words(terms: ScratchTerms, cell: Cell) -> Range<usize>
     ensures { Covers (scratch_widths terms.layout) (cell_of cell) (width_of terms.layout cell) (scratch_words terms.layout) result.start result.end }
 {
     let start = cell_start(terms, cell);
@@ -67,7 +67,7 @@ pub fn cell_words(terms: Terms, cell: Cell) -> Range<usize>
 }
 
 // The words of a row of scratch.
-pub fn row_words(terms: Terms, row: SlotRow) -> Range<usize>
+pub fn row_words(terms: ScratchTerms, row: SlotRow) -> Range<usize>
     requires { RowThere terms.layout row }
     ensures { Covers (scratch_widths terms.layout) (row_of terms.layout row) terms.layout.words (scratch_words terms.layout) result.start result.end }
 {

@@ -14,14 +14,14 @@ use crate::layout;
 use crate::names::{BlockSet, Cell, SlotRow};
 use crate::views::{ScratchView, SetsView};
 use run::Run;
-use run::terms::Terms;
+use run::terms::ScratchTerms;
 use sizes::Layout;
 use std::marker::{Model, PhantomData};
 
 #[derive(Drop)]
 pub struct Scratch<'a, R: Run> {
     words: &'a mut [u64],
-    terms: Terms,
+    terms: ScratchTerms,
     run: PhantomData<R>,
 }
 
@@ -37,7 +37,7 @@ impl<'a, R: Run> Model for Scratch<'a, R> {
 }
 
 impl<'a, R: Run> Scratch<'a, R> {
-    pub fn new(words: &'a mut [u64], terms: Terms) -> Self
+    pub fn new(words: &'a mut [u64], terms: ScratchTerms) -> Self
         requires { (terms.layout ≡ R.layout) × (words.ghost_name ≡ R.scratch.name) × (length words.old ≡ R.scratch.length) × (scratch_words terms.layout ≤ length words.old) }
         ensures { result ≡ scratch R.layout words.old }
     {

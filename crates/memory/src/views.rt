@@ -14,14 +14,14 @@ ghost use Rattle.sizes.specs.Sizes.{scratch_words, sets_words};
 use crate::layout;
 use crate::names::{BlockSet, Cell, SlotRow};
 use run::Run;
-use run::terms::{SetsTerms, Terms};
+use run::terms::{ScratchTerms, SetsTerms};
 use sizes::Layout;
 use std::marker::{Model, PhantomData};
 
 #[derive(Drop)]
 pub struct ScratchView<'a, R: Run> {
     words: &'a [u64],
-    terms: Terms,
+    terms: ScratchTerms,
     run: PhantomData<R>,
 }
 
@@ -49,7 +49,7 @@ impl<'a, R: Run> Model for SetsView<'a, R> {
 }
 
 impl<'a, R: Run> ScratchView<'a, R> {
-    pub fn new(words: &'a [u64], terms: Terms) -> Self
+    pub fn new(words: &'a [u64], terms: ScratchTerms) -> Self
         requires { (terms.layout ≡ R.layout) × (scratch_words terms.layout ≤ length words.now) }
         ensures { result ≡ scratch R.layout words.now }
     {

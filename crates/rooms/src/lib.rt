@@ -12,7 +12,7 @@ use memory::buffer::Buffer;
 use memory::scratch::Scratch;
 use run::Run;
 use run::meter::Meter;
-use run::terms::Terms;
+use run::terms::ScratchTerms;
 use sizes::{Layout, Lent, Stopped};
 use std::marker::Brand;
 use std::mem;
@@ -35,7 +35,7 @@ fn index<R: Run>(
 fn count<R: Run>(
     sheet: &Sheet<'_>,
     scratch: &mut Buffer<'_>,
-    marks: Terms,
+    marks: ScratchTerms,
     lent: Lent,
     limits: Limits,
     budget: FlowBudget,
@@ -72,7 +72,7 @@ pub fn measure(
 {
     let left = budget.charge(0, limits)?;
     // No block is known yet, so that a layout of the marks has no cell of a block.
-    let marks = Terms {
+    let marks = ScratchTerms {
         layout: Layout {
             instructions: sheet.script.count,
             blocks: 0,

@@ -10,7 +10,7 @@ use std::marker::Brand;
 pub trait Run {
     ghost use Rattle.sizes.specs.declared.Layout.{Layout};
     ghost use Rattle.budget.specs.declared.Limits.{Limits};
-    ghost use Rattle.run.specs.Terms.{Bounded, Loan};
+    ghost use Rattle.run.specs.Terms.{ScratchBounded, Loan};
 
     ghost layout: { Layout };
 
@@ -20,13 +20,13 @@ pub trait Run {
 
     ghost sets: { Loan };
 
-    ghost bounded: { Bounded layout };
+    ghost bounded: { ScratchBounded layout };
 }
 
 // What a caller that picks nothing has.
 impl Run for Brand {
     ghost use Rattle.budget.specs.Budget.{todays};
-    ghost use Rattle.run.specs.Terms.{nothing, no_loan, nothing-bounded};
+    ghost use Rattle.run.specs.Terms.{nothing, no_loan, bounded_scratch, nothing-bounded};
 
     ghost layout = { nothing };
 
@@ -36,5 +36,5 @@ impl Run for Brand {
 
     ghost sets = { no_loan };
 
-    ghost bounded = { nothing-bounded };
+    ghost bounded = { bounded_scratch nothing-bounded };
 }

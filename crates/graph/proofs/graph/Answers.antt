@@ -17,7 +17,6 @@ build-requires c = (
   record { named = refl; long = refl },
   (indexes c.in_ok-layout.ensures).room.fits,
   (indexes c.in_ok-layout.ensures).sets_room.fits,
-  (indexes c.in_ok-layout.ensures).sets_room.awaits,
   build_ready c.in_ok-layout.ensures c.args.sheet.now.sound,
 )
 

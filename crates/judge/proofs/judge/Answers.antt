@@ -1,7 +1,7 @@
 -- `judge::judge` meets its contract. Assumes nothing.
 use Rattle.std.proofs.Common.{refl, arith, rules}
 use Rattle.std.proofs.lemmas.Result.{err_from_is_err_and}
-use Rattle.judge.proofs.JudgeLaws.{judges_short, judges_refused, layout_bounded, scratch_enough, awaits_few, sets_enough, solve_begun, judges_on}
+use Rattle.judge.proofs.JudgeLaws.{judges_short, judges_refused, layout_bounded, scratch_enough, sets_enough, solve_begun, judges_on}
 use Rattle.starts.proofs.StartLaws.{with_below}
 use Rattle.judge.proofs.judge.Goals as goal
 
@@ -32,7 +32,6 @@ solve-requires c =
       record { named = refl; long = refl },
       scratch_enough _ _ _ _ _ _ _ _ (omega (arith, enough)) _ _ _ c.graph.ensures _ _ c.in_ok-layout.was,
       sets_enough _ _ _ _ _ _ _ _ (omega (arith, enough)) _ _ _ c.graph.ensures _ _ c.in_ok-layout.was (omega (arith, c.graph.auto.t)),
-      awaits_few _ _ _ _ _ _ _ _ (omega (arith, enough)) _ _ _ c.graph.ensures _ _ c.in_ok-layout.was,
       c.requires,
       solve_begun _ _ _ _ _ _ _ _ (omega (arith, enough)) _ _ _ c.graph.ensures _ _ c.in_ok-layout.was ok (with_below _ _ ok c.args.added.now),
     )

@@ -1,3 +1,4 @@
+use Rattle.run.specs.Terms.{bounded_scratch}
 use Rattle.memory.specs.Buffer.{loan_of}
 use Rattle.judge.proofs.judge.Given as goal
 
@@ -7,5 +8,5 @@ ghosts-solve a = record {
   limits = a.limits;
   scratch = loan_of a.s.now.words;
   sets = loan_of a.t.now.words;
-  bounded = a.terms.bounded;
+  bounded = bounded_scratch a.terms.bounded;
 }
