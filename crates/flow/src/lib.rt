@@ -13,8 +13,8 @@ use answers::{Answer, AnswerWithin};
 use blocklist::Listed;
 use budget::{FlowBudget, Limits};
 use memory::views::ScratchView;
-use run::Run;
-use run::terms::ScratchTerms;
+use run::bounded::{AsRun, BoundedRun};
+use run::terms::{ScratchTerms, Terms};
 use std::marker::Brand;
 
 // Any bytes, any budget, any buffers. `blocks` takes the block records; `sets` takes both sets of each block and the set of each reached await;
@@ -84,16 +84,20 @@ fn call<T: Listed>(
     let records = blocks.len() / T::PER_RECORD;
     let examined = added::examine(sheet, added, limits, budget, scratch, sets, records);
     let layout = answers::layout_of(examined);
-    list::<T, Brand>(blocks, scratch, ScratchTerms { layout });
+    list::<T, Brand>(blocks, scratch, Terms { layout });
     scratch.fill(0);
     let answer = answers::answer_of(examined);
     AnswerWithin { answer, limits }
 }
 
 // The block list, from the words of scratch as they have this layout.
-fn list<T: Listed, R: Run>(blocks: &mut [T], words: &[u64], terms: ScratchTerms)
+fn list<T: Listed, R: BoundedRun>(blocks: &mut [T], words: &[u64], terms: Terms)
     requires { (terms.layout ≡ R.layout) × (scratch_words terms.layout ≤ length words.now) }
     ensures { blocks.new ≡ tabulate 0 (length blocks.old) (T.listed (scratch terms.layout words.now) terms.layout.blocks) }
 {
-    blocklist::fill(blocks, &ScratchView::<R>::new(words, terms));
+    let layout = terms.layout;
+    blocklist::fill(
+        blocks,
+        &ScratchView::<AsRun<R>>::new(words, ScratchTerms { layout }),
+    );
 }

@@ -20,6 +20,7 @@ use memory::names::SlotRow;
 use memory::scratch::Scratch;
 use memory::sets::Sets;
 use run::Run;
+use run::bounded::{AsRun, BoundedRun};
 use run::meter::Meter;
 use run::terms::{ScratchTerms, SetsTerms, Terms};
 use sizes::{Layout, Lent, Stopped};
@@ -59,7 +60,7 @@ pub fn graph(
 }
 
 // The words of both buffers as cells, and the graph in them.
-fn build<R: Run>(
+fn build<R: BoundedRun>(
     sheet: &Sheet<'_>,
     added: &[u64],
     s: &mut Buffer<'_>,
@@ -76,8 +77,8 @@ fn build<R: Run>(
         (scratch terms.layout s.old.words.now) (scratch terms.layout s.new.words.now) (sets terms.layout t.new.words.now) result }
 {
     let layout = terms.layout;
-    let mut cells = Scratch::<R>::new(mem::take(&mut s.words), ScratchTerms { layout });
-    let mut kept = Sets::<R>::new(mem::take(&mut t.words), SetsTerms { layout });
+    let mut cells = Scratch::<AsRun<R>>::new(mem::take(&mut s.words), ScratchTerms { layout });
+    let mut kept = Sets::<AsRun<R>>::new(mem::take(&mut t.words), SetsTerms { layout });
     let built = build_cells(
         sheet,
         added,

@@ -24,6 +24,7 @@ use memory::names::SlotRow;
 use memory::scratch::Scratch;
 use memory::sets::Sets;
 use run::Run;
+use run::bounded::{AsRun, BoundedRun};
 use run::meter::Meter;
 use run::terms::{ScratchTerms, SetsTerms, Terms};
 use sizes::{Layout, Stopped};
@@ -72,7 +73,7 @@ pub fn judge(
 }
 
 // The words of both buffers as cells, and what is left to do in them.
-fn solve<R: Run>(
+fn solve<R: BoundedRun>(
     sheet: &Sheet<'_>,
     s: &mut Buffer<'_>,
     t: &mut Buffer<'_>,
@@ -89,8 +90,8 @@ fn solve<R: Run>(
         (scratch terms.layout s.new.words.now) (sets terms.layout t.new.words.now) result }
 {
     let layout = terms.layout;
-    let mut cells = Scratch::<R>::new(mem::take(&mut s.words), ScratchTerms { layout });
-    let mut kept = Sets::<R>::new(mem::take(&mut t.words), SetsTerms { layout });
+    let mut cells = Scratch::<AsRun<R>>::new(mem::take(&mut s.words), ScratchTerms { layout });
+    let mut kept = Sets::<AsRun<R>>::new(mem::take(&mut t.words), SetsTerms { layout });
     let judged = solve_cells(sheet, &mut cells, &mut kept, Meter::new(limits, budget));
     s.words = cells.into_words();
     t.words = kept.into_words();

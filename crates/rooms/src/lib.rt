@@ -11,8 +11,9 @@ use instructions::checked::Sheet;
 use memory::buffer::Buffer;
 use memory::scratch::Scratch;
 use run::Run;
+use run::bounded::{AsRun, BoundedRun};
 use run::meter::Meter;
-use run::terms::ScratchTerms;
+use run::terms::{ScratchTerms, Terms};
 use sizes::{Layout, Lent, Stopped};
 use std::marker::Brand;
 use std::mem;
@@ -32,10 +33,10 @@ fn index<R: Run>(
 }
 
 // The blocks counted, in the layout of the marks, then the rooms.
-fn count<R: Run>(
+fn count<R: BoundedRun>(
     sheet: &Sheet<'_>,
     scratch: &mut Buffer<'_>,
-    marks: ScratchTerms,
+    marks: Terms,
     lent: Lent,
     limits: Limits,
     budget: FlowBudget,
@@ -46,7 +47,8 @@ fn count<R: Run>(
     ensures counted { Counted sheet.now.bytes.now sheet.now.script limits lent budget scratch.old.words.now scratch.new.words.now result }
 {
     let length = scratch.words.len();
-    let mut s = Scratch::<R>::new(mem::take(&mut scratch.words), marks);
+    let layout = marks.layout;
+    let mut s = Scratch::<AsRun<R>>::new(mem::take(&mut scratch.words), ScratchTerms { layout });
     let indexed = index(sheet, &mut s, Meter::new(limits, budget));
     scratch.words = s.into_words();
     let (blocks, left) = indexed?;
@@ -72,7 +74,7 @@ pub fn measure(
 {
     let left = budget.charge(0, limits)?;
     // No block is known yet, so that a layout of the marks has no cell of a block.
-    let marks = ScratchTerms {
+    let marks = Terms {
         layout: Layout {
             instructions: sheet.script.count,
             blocks: 0,

@@ -1,6 +1,7 @@
 // What stays the same while one script is judged. A type parameter stands for it, so that no function hands it on and a contract names it.
 #![tactic(auto)]
 
+pub mod bounded;
 pub mod meter;
 pub mod terms;
 

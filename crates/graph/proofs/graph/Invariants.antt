@@ -1,5 +1,4 @@
 -- The run that `graph` picks: the layout that was measured, and the words that were lent.
-use Rattle.run.specs.Terms.{bounded_scratch}
 use Rattle.memory.specs.Buffer.{loan_of}
 use Rattle.graph.proofs.graph.Given as goal
 
@@ -9,5 +8,5 @@ ghosts-build a = record {
   limits = a.limits;
   scratch = loan_of a.s.now.words;
   sets = loan_of a.t.now.words;
-  bounded = bounded_scratch a.terms.bounded;
+  bounded = a.terms.bounded;
 }

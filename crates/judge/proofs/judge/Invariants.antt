@@ -1,4 +1,3 @@
-use Rattle.run.specs.Terms.{bounded_scratch}
 use Rattle.memory.specs.Buffer.{loan_of}
 use Rattle.judge.proofs.judge.Given as goal
 
@@ -8,5 +7,5 @@ ghosts-solve a = record {
   limits = a.limits;
   scratch = loan_of a.s.now.words;
   sets = loan_of a.t.now.words;
-  bounded = bounded_scratch a.terms.bounded;
+  bounded = a.terms.bounded;
 }

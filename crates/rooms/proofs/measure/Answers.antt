@@ -17,6 +17,7 @@ invariant_of-marks c = record {
     instructions = (passed_sound c.args.sheet.now).few_code;
     blocks = omega arith;
     words = omega arith;
+    awaits = omega arith;
     extra = omega arith;
   };
 }
